@@ -1,5 +1,5 @@
 -- What entries say of addresses.
-use Rattle.std.proofs.Common.{◌≡◌, ◌⊎◌, ◌≤◌, ◌+◌, ◌==◌, ◌&&◌, ◌||◌, ℕ, Bool, true, if◌then◌else◌, List, [], ◌∷◌, Option, Some, None, refl, sym, ap, subst, ◌∙◌, inl, inr, arith}
+use Rattle.std.proofs.Common.{◌≡◌, ◌⊎◌, ◌≤◌, ◌+◌, ◌==◌, ◌&&◌, ◌||◌, not, ℕ, Bool, true, if◌then◌else◌, List, [], ◌∷◌, Option, Some, None, refl, sym, ap, subst, ◌∙◌, inl, inr, arith}
 use Rattle.std.specs.List.{AllByRecursion}
 use Rattle.std.proofs.lemmas.Bool.{and_from, and_parts, cases_Bool, cond-false, cond-true, eq-eqb, eqb-true, or_left, or_right}
 use Rattle.std.proofs.lemmas.Option.{none-some, same_Some}
@@ -9,8 +9,8 @@ use Rattle.pl_wiring.specs.declared.host.HostNo.{HostNo}
 use Rattle.pl_wiring.specs.declared.label.SwitchNo.{SwitchNo}
 use Rattle.pl_wiring.specs.Plan.{Plan}
 use Rattle.pl_journal.specs.declared.entry.Entry.{Entry}
-use Rattle.pl_journal.specs.declared.entry.Entry.TheVariants.{Granted, Moved, Registered}
-use Rattle.pl_journal.specs.Places.{EdgePort, are_alike, at_port, granted_at, has_stood, holder, is_of_edge, is_spent, number, registered, same_pod_and_position, same_edge_port, edge_port}
+use Rattle.pl_journal.specs.declared.entry.Entry.TheVariants.{Freed, Granted, Moved, Registered}
+use Rattle.pl_journal.specs.Places.{EdgePort, are_alike, are_live_there, at_port, granted_at, has_stood, holder, is_live, is_of_edge, is_spent, number, registered, same_pod_and_position, same_edge_port, edge_port}
 use Rattle.pl_node.specs.SwitchViews.{SwitchView}
 use Rattle.pl_world.specs.Changes.{host_of}
 use Rattle.pl_law_ledger.specs.Ledgers.{IsBacked, IsGrantedThere, ledger}
@@ -20,34 +20,43 @@ use Rattle.pl_law_ledger.proofs.GrantsWritten.{all_written, entry_for}
 -- ---- the entries that are left out say nothing of addresses
 pub record Says : Type 0 where
   pub hold : ℕ → Option ℕ
+  pub live : ℕ → Bool
   pub edge_ports : ℕ → Option EdgePort
   pub numbers : ℕ → Option ℕ
   pub many : ℕ
   pub stood : ℕ → EdgePort → Bool
   pub spent : EdgePort → Bool
+  pub all_live : (ℕ → Bool) → EdgePort → Bool
   pub of_edge : Pmac → ℕ → Bool
 
 abbrev pub says : Plan → List Entry → Says
 says plan past = record {
   hold = λ n. holder past n;
+  live = λ n. is_live past n;
   edge_ports = λ n. edge_port past n;
   numbers = λ n. number past n;
   many = registered past;
   stood = λ h there. has_stood plan past h there;
   spent = λ there. is_spent past there;
+  all_live = λ live there. are_live_there live past there;
   of_edge = λ x e. is_of_edge past x e;
 }
 
 abbrev granted_more : Says → Pmac → HostNo → SwitchNo → ℕ → Says
 granted_more f x h e p = record {
   hold = λ n. if pmac_number x == n then Some h.0 else f.hold n;
+  live = λ n. (pmac_number x == n) || f.live n;
   edge_ports = λ n. if pmac_number x == n then Some (at_port e.0 p) else f.edge_ports n;
-  numbers = f.numbers;
+  numbers = λ n. if pmac_number x == n then None else f.numbers n;
   many = f.many;
   stood = f.stood;
   spent = λ there. ((x.vmid == 65535) && same_edge_port (at_port e.0 p) there) || f.spent there;
+  all_live = λ live there. (not (same_edge_port (at_port e.0 p) there) || live (pmac_number x)) && f.all_live live there;
   of_edge = λ y edge. are_alike (same_pod_and_position y x) (e.0 == edge) && f.of_edge y edge;
 }
+
+abbrev freed_more : Says → Pmac → Says
+freed_more f x = record f { live = λ n. not (pmac_number x == n) && f.live n }
 
 abbrev registered_more : Says → Pmac → ℕ → Says
 registered_more f x m = record f { numbers = λ n. if pmac_number x == n then Some m else f.numbers n; many = f.many + 1 }
@@ -58,16 +67,18 @@ moved_more f h e p = record f { stood = λ host there. (h.0 == host && same_edge
 pub same_says : (plan : Plan) (past : List Entry) → says plan (ledger past) ≡ says plan past
 same_says plan [] = refl
 same_says plan (Granted x h e p ∷ past) = ap (λ f. granted_more f x h e p) (same_says plan past)
+same_says plan (Freed x ∷ past) = ap (λ f. freed_more f x) (same_says plan past)
 same_says plan (Registered x n ∷ past) = ap (λ f. registered_more f x n) (same_says plan past)
 same_says plan (Moved h e p ∷ past) = ap (λ f. moved_more f h e p) (same_says plan past)
 same_says plan (entry ∷ past) = same_says plan past
 
 -- ---- what entries that switch s adds change
 module _ (plan : Plan) (s : ℕ) where
-  -- a number has this host and this port
+  -- a number has this host and this port, and is live
   pub record IsAt (entries : List Entry) (n h : ℕ) (at : EdgePort) : Type 0 where
     pub held : holder entries n ≡ Some h
     pub there : edge_port entries n ≡ Some at
+    pub live : is_live entries n ≡ true
 
   -- what is granted has another number, or this host and port
   abbrev pub IsFor : ℕ → ℕ → EdgePort → Giving → Type 0
@@ -75,23 +86,25 @@ module _ (plan : Plan) (s : ℕ) where
 
   entered_at : (entries : List Entry) (x : Pmac) (n h : ℕ) (at : EdgePort) (o : Option ℕ) → (pmac_number x ≡ n → ⊥) ⊎ ((o ≡ Some h) × (at_port s x.port ≡ at)) → IsAt entries n h at →
       IsAt (entry_for s entries x o) n h at
-  entered_at entries x n h at None may is = record { held = is.held; there = is.there }
+  entered_at entries x n h at None may is = record { held = is.held; there = is.there; live = is.live }
   entered_at entries x n h at (Some m) may is = elim (cases_Bool (pmac_number x == n)) [
     | inr other ↦ record {
       held = cond-false (pmac_number x == n) (Some m) (holder entries n) other ∙ is.held;
       there = cond-false (pmac_number x == n) (Some (at_port s x.port)) (edge_port entries n) other ∙ is.there;
+      live = or_right (pmac_number x == n) (is_live entries n) is.live;
     }
     | inl same ↦ elim may [
       | inl apart ↦ absurd (apart (eqb-true (pmac_number x) n same))
       | inr so ↦ record {
         held = cond-true (pmac_number x == n) (Some m) (holder entries n) same ∙ so.0;
         there = cond-true (pmac_number x == n) (Some (at_port s x.port)) (edge_port entries n) same ∙ ap Some so.1;
+        live = or_left (pmac_number x == n) (is_live entries n) same;
       }
     ]
   ]
 
   pub still_at : (gs : List Giving) (entries : List Entry) (n h : ℕ) (at : EdgePort) → AllByRecursion (IsFor n h at) gs → IsAt entries n h at → IsAt (all_written plan s entries gs) n h at
-  still_at [] entries n h at all is = record { held = is.held; there = is.there }
+  still_at [] entries n h at all is = record { held = is.held; there = is.there; live = is.live }
   still_at (g ∷ gs) entries n h at all is =
       still_at gs (entry_for s entries g.pmac (host_of plan g.mac)) n h at all.1 (entered_at entries g.pmac n h at (host_of plan g.mac) all.0 is)
 
@@ -102,6 +115,7 @@ module _ (plan : Plan) (s : ℕ) where
       record {
         held = cond-true (pmac_number x == pmac_number x) (Some m) (holder entries (pmac_number x)) e ∙ is;
         there = cond-true (pmac_number x == pmac_number x) (Some (at_port s x.port)) (edge_port entries (pmac_number x)) e;
+        live = or_left (pmac_number x == pmac_number x) (is_live entries (pmac_number x)) e;
       }
 
   pub now_at : (gs : List Giving) (entries : List Entry) (g : Giving) (h : ℕ) → IsOneOf gs g → host_of plan g.mac ≡ Some h →
@@ -183,15 +197,42 @@ module _ (plan : Plan) (s : ℕ) where
     pub numbers : (n : ℕ) → number later n ≡ number entries n
     pub count : registered later ≡ registered entries
 
-  alike_entry : (entries : List Entry) (x : Pmac) (o : Option ℕ) → SaysAlike entries (entry_for s entries x o)
-  alike_entry entries x None = record { stood = λ h there. refl; numbers = λ n. refl; count = refl }
-  alike_entry entries x (Some m) = record { stood = λ h there. refl; numbers = λ n. refl; count = refl }
+  alike_entry : (entries : List Entry) (x : Pmac) (o : Option ℕ) → number entries (pmac_number x) ≡ None → SaysAlike entries (entry_for s entries x o)
+  alike_entry entries x None none = record { stood = λ h there. refl; numbers = λ n. refl; count = refl }
+  alike_entry entries x (Some m) none = record {
+    stood = λ h there. refl;
+    numbers = λ n. elim (cases_Bool (pmac_number x == n)) [
+      | inl same ↦ cond-true (pmac_number x == n) None (number entries n) same ∙ sym (ap (λ k. number entries k) (sym (eqb-true (pmac_number x) n same)) ∙ none)
+      | inr other ↦ cond-false (pmac_number x == n) None (number entries n) other
+    ];
+    count = refl;
+  }
 
-  pub alike : (gs : List Giving) (entries : List Entry) → SaysAlike entries (all_written plan s entries gs)
-  alike [] entries = record { stood = λ h there. refl; numbers = λ n. refl; count = refl }
-  alike (g ∷ gs) entries =
-      let one = alike_entry entries g.pmac (host_of plan g.mac) in
-      let rest = alike gs (entry_for s entries g.pmac (host_of plan g.mac)) in
+  -- none of those that are given has a number
+  abbrev pub HaveNone : List Entry → List Giving → Type 0
+  HaveNone entries gs = AllByRecursion (λ g. number entries (pmac_number g.pmac) ≡ None) gs
+
+  still_none : (entries later : List Entry) (gs : List Giving) → ((n : ℕ) → number later n ≡ number entries n) → HaveNone entries gs → HaveNone later gs
+  still_none entries later [] same none = tt
+  still_none entries later (g ∷ gs) same none = (same (pmac_number g.pmac) ∙ none.0, still_none entries later gs same none.1)
+
+  -- an address that was granted still has a holder
+  holder_entry : (entries : List Entry) (x : Pmac) (o : Option ℕ) (n : ℕ) → (h : ℕ) × (holder entries n ≡ Some h) → (h : ℕ) × (holder (entry_for s entries x o) n ≡ Some h)
+  holder_entry entries x None n is = is
+  holder_entry entries x (Some m) n is = elim (cases_Bool (pmac_number x == n)) [
+    | inl same ↦ (m, cond-true (pmac_number x == n) (Some m) (holder entries n) same)
+    | inr other ↦ (is.0, cond-false (pmac_number x == n) (Some m) (holder entries n) other ∙ is.1)
+  ]
+
+  pub some_holder : (gs : List Giving) (entries : List Entry) (n : ℕ) → (h : ℕ) × (holder entries n ≡ Some h) → (h : ℕ) × (holder (all_written plan s entries gs) n ≡ Some h)
+  some_holder [] entries n is = is
+  some_holder (g ∷ gs) entries n is = some_holder gs (entry_for s entries g.pmac (host_of plan g.mac)) n (holder_entry entries g.pmac (host_of plan g.mac) n is)
+
+  pub alike : (gs : List Giving) (entries : List Entry) → HaveNone entries gs → SaysAlike entries (all_written plan s entries gs)
+  alike [] entries none = record { stood = λ h there. refl; numbers = λ n. refl; count = refl }
+  alike (g ∷ gs) entries none =
+      let one = alike_entry entries g.pmac (host_of plan g.mac) none.0 in
+      let rest = alike gs (entry_for s entries g.pmac (host_of plan g.mac)) (still_none entries (entry_for s entries g.pmac (host_of plan g.mac)) gs one.numbers none.1) in
       record {
         stood = λ h there. rest.stood h there ∙ one.stood h there;
         numbers = λ n. rest.numbers n ∙ one.numbers n;
@@ -263,3 +304,15 @@ spent_there (Granted y h e p ∷ entries) n there all is = elim (cases_Bool (pma
     edge_port_itself : (a : EdgePort) → same_edge_port a a ≡ true
     edge_port_itself a = and_from (a.edge == a.edge) (a.port == a.port) (eq-eqb a.edge a.edge refl) (eq-eqb a.port a.port refl)
 spent_there (entry ∷ entries) n there all is = spent_there entries n there all.1 is
+
+-- each address that is granted at a port is live
+abbrev pub IsLiveOne : (ℕ → Bool) → Entry → Type 0
+IsLiveOne live (Granted y h e p) = live (pmac_number y) ≡ true
+IsLiveOne live entry = Unit {0}
+
+pub live_there : (live : ℕ → Bool) (entries : List Entry) (there : EdgePort) → AllByRecursion (IsLiveOne live) entries → are_live_there live entries there ≡ true
+live_there live [] there all = refl
+live_there live (Granted y h e p ∷ entries) there all =
+    let elsewhere : Bool = not (same_edge_port (at_port e.0 p) there) in
+    and_from (elsewhere || live (pmac_number y)) (are_live_there live entries there) (or_right elsewhere (live (pmac_number y)) all.0) (live_there live entries there all.1)
+live_there live (entry ∷ entries) there all = live_there live entries there all.1

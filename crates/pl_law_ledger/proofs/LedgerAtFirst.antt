@@ -49,6 +49,7 @@ boot_ledger plan limits = record {
       (ap (λ (o : Option Host). is_at (option_map (λ (q : Host). at_port q.edge.0 q.port) o) (at_port it.0.edge.0 it.0.port)) it.1
       ∙ and_from (it.0.edge.0 == it.0.edge.0) (it.0.port == it.0.port) (eq-eqb it.0.edge.0 it.0.edge.0 refl) (eq-eqb it.0.port it.0.port refl));
   numbers = λ x fits. refl;
+  numbered = λ n m is. absurd (none-some m is);
   count = refl;
 }
 

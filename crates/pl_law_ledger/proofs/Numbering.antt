@@ -1,7 +1,7 @@
 -- The fabric manager keeps the ledger: what it registers is written down.
 use Rattle.std.proofs.Common.{◌≡◌, ◌⊎◌, ◌+◌, ◌==◌, ℕ, true, false, cond, List, [], ◌∷◌, ◌++◌, fold, map, length, Option, Some, None, option_map, unwrap_or, refl, sym, ap, subst, ◌∙◌, inl, inr, append_assoc}
 use Rattle.std.specs.List.{flat_map, list_any}
-use Rattle.std.proofs.lemmas.Bool.{cases_Bool, cond-false, cond-true, eq-eqb, false≢true, ne_eqb}
+use Rattle.std.proofs.lemmas.Bool.{cases_Bool, cond-false, cond-true, eq-eqb, false≢true, ne_eqb, eqb-true}
 use Rattle.pl_frame.specs.declared.address.Ip4.{Ip4}
 use Rattle.pl_frame.specs.declared.address.Mac.{Mac}
 use Rattle.pl_frame.specs.declared.address.SwitchId.{SwitchId}
@@ -20,7 +20,7 @@ use Rattle.pl_node.specs.ManagerFacts.{groups}
 use Rattle.pl_node.specs.SwitchViews.{SwitchView}
 use Rattle.pl_journal.specs.declared.entry.Entry.{Entry}
 use Rattle.pl_journal.specs.declared.entry.Entry.TheVariants.{Registered}
-use Rattle.pl_journal.specs.Places.{number, registered}
+use Rattle.pl_journal.specs.Places.{number, registered, holder}
 use Rattle.pl_manager_rule.specs.Histories.{Word, known}
 use Rattle.pl_manager_rule.specs.ManagerRule.{answer_to, avoid_acts, changed, changed_of_group, invalidation, learning, manager_hears, tree_acts, tree_acts_of, view_after}
 use Rattle.pl_wiring.specs.Plan.{Plan}
@@ -174,12 +174,13 @@ module _ (plan : Plan) (learnt after : Learnt) (switches : List SwitchView) (att
     sources = before.sources;
     standing = before.standing;
     numbers = λ x fits. before.numbers x fits ∙ sym (l.at x);
+    numbered = before.numbered;
     count = before.count ∙ sym l.count;
   })
 
-  pub one_entered : (ns : List Numbering) (x : Pmac) → PmacFits x → LearnsOne learnt after ns x → AreEntered plan after switches attachments (all_numbered entries ns)
-  one_entered ns x fits_x l = subst (λ ms. AreEntered plan after switches attachments (all_numbered entries ms)) (sym l.one) (record {
-    grants = λ s v y g found is. let e = before.grants s v y g found is in record { host = e.host; of_mac = e.of_mac; held = e.held; there = e.there; for_hosts = e.for_hosts };
+  pub one_entered : (ns : List Numbering) (x : Pmac) → PmacFits x → (h : ℕ) × (holder entries (pmac_number x) ≡ Some h) → LearnsOne learnt after ns x → AreEntered plan after switches attachments (all_numbered entries ns)
+  one_entered ns x fits_x held l = subst (λ ms. AreEntered plan after switches attachments (all_numbered entries ms)) (sym l.one) (record {
+    grants = λ s v y g found is. let e = before.grants s v y g found is in record { host = e.host; of_mac = e.of_mac; held = e.held; live = e.live; there = e.there; for_hosts = e.for_hosts };
     newest = λ s v y g h found is of.
         let e = before.newest s v y g h found is of in
         record { last = e.last; grant = e.grant; is_last = e.is_last; found = e.found; of_mac = e.of_mac; same_port = e.same_port; not_before = e.not_before };
@@ -196,6 +197,10 @@ module _ (plan : Plan) (learnt after : Learnt) (switches : List SwitchView) (att
           cond-false (pmac_number x == pmac_number y) (Some (length (registry learnt) + 1)) (number entries (pmac_number y))
           (ne_eqb (pmac_number x) (pmac_number y) (λ same. false≢true (sym other ∙ same_by x y (same_pmac_number x y fits_x fits same))))
           ∙ before.numbers y fits ∙ sym (l.at y other)
+    ];
+    numbered = λ n m is. elim (cases_Bool (pmac_number x == n)) [
+      | inl same ↦ (held.0, ap (λ k. holder entries k) (sym (eqb-true (pmac_number x) n same)) ∙ held.1)
+      | inr other ↦ before.numbered n m (sym (cond-false (pmac_number x == n) (Some (length (registry learnt) + 1)) (number entries n) other) ∙ is)
     ];
     count = ap (λ n. n + 1) before.count ∙ sym l.count;
   })

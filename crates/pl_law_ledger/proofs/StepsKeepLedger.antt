@@ -1,5 +1,5 @@
 -- A step of a switch keeps the ledger.
-use Rattle.std.proofs.Common.{◌≡◌, ◌≢◌, ◌⊎◌, ◌≤◌, ◌<◌, ℕ, true, set, List, [], ◌∷◌, length, Some, slice_get, refl, sym, ap, subst, ◌∙◌, inl, inr, arith}
+use Rattle.std.proofs.Common.{◌≡◌, ◌≢◌, ◌⊎◌, ◌≤◌, ◌<◌, ℕ, true, set, List, [], ◌∷◌, length, Some, slice_get, refl, sym, ap, subst, ◌∙◌, inl, inr, arith, None, Option}
 use Rattle.std.specs.List.{AllByRecursion}
 use Rattle.std.proofs.lemmas.Bool.{cases_eq}
 use Rattle.std.proofs.lemmas.Option.{none-some, same_Some, slice_get_within}
@@ -13,7 +13,7 @@ use Rattle.pl_node.specs.Accounting.{IsShaped}
 use Rattle.pl_node.specs.ManagerViews.{Learnt}
 use Rattle.pl_node.specs.SwitchViews.{SwitchView}
 use Rattle.pl_journal.specs.declared.entry.Entry.{Entry}
-use Rattle.pl_journal.specs.Places.{at_port}
+use Rattle.pl_journal.specs.Places.{at_port, number}
 use Rattle.pl_switch_rule.specs.Granting.{granted, grants_at, is_local, remembered_at}
 use Rattle.pl_switch_rule.proofs.Exports.{granted_parts}
 use Rattle.pl_wiring.specs.Plan.{Plan}
@@ -23,7 +23,7 @@ use Rattle.pl_law_addresses.specs.Addressed.{AreApart}
 use Rattle.pl_law_addresses.specs.EdgeAddresses.{IsGrantedTo, KeepsGrantees}
 use Rattle.pl_law_addresses.proofs.Exports.{get-set_other, get-set_same, granted_within, number_within}
 use Rattle.pl_law_ledger.specs.Ledgers.{AreEntered, AreInBounds, HasStoodThere, IsBeforeLast, IsEntered, IsGrantedThere}
-use Rattle.pl_law_ledger.proofs.AddressTables.{GivesGood, HasLast, IsFor, SaysAlike, alike, all_backed, backed_later, last_given, last_stays, now_at, still_at}
+use Rattle.pl_law_ledger.proofs.AddressTables.{GivesGood, HasLast, IsFor, SaysAlike, alike, all_backed, backed_later, last_given, last_stays, now_at, still_at, held_somewhere, some_holder}
 use Rattle.pl_law_ledger.proofs.Giving.{AreRising, Giving, IsNewlyGiven, IsOneOf, all_weaker, gives, of_all}
 use Rattle.pl_law_ledger.proofs.Takes.{AreFew, AreOf, IsFurther, IsOfHere}
 use Rattle.pl_law_ledger.proofs.GrantsWritten.{all_written}
@@ -99,8 +99,8 @@ module _ (plan : Plan) (learnt : Learnt) (switches : List SwitchView) (attachmen
   entered_old t x g q mac none e =
       let at = still_at plan s gs entries (pmac_number x) e.host (at_port t x.port)
       (all_weaker (λ h. pmac_number h.pmac ≡ pmac_number x → ⊥) (IsFor plan s (pmac_number x) e.host (at_port t x.port)) (λ h no. inl no) gs none)
-      (record { held = e.held; there = e.there }) in
-      record { host = e.host; of_mac = ap (host_of plan) (sym mac) ∙ e.of_mac; held = at.held; there = at.there; for_hosts = e.for_hosts }
+      (record { held = e.held; there = e.there; live = e.live }) in
+      record { host = e.host; of_mac = ap (host_of plan) (sym mac) ∙ e.of_mac; held = at.held; live = at.live; there = at.there; for_hosts = e.for_hosts }
 
   grants_now : (t : ℕ) (u : SwitchView) (x : Pmac) (g : Grant) → slice_get (set switches s w) t ≡ Some u → granted u x ≡ Some g → IsEntered plan (all_written plan s entries gs) t x g
   unfolding within there
@@ -122,7 +122,7 @@ module _ (plan : Plan) (learnt : Learnt) (switches : List SwitchView) (attachmen
               let all : AllByRecursion (IsFor plan s (pmac_number x) host.host (at_port s x.port)) gs =
               all_weaker (IsNewlyGiven v w) (IsFor plan s (pmac_number x) host.host (at_port s x.port)) (λ h new. this_or_other x g mine host.host host.of_mac h new) gs fresh in
               let at = now_at plan s gs entries (gives x g.amac) host.host one host.of_mac all in
-              record { host = host.host; of_mac = host.of_mac; held = at.held; there = at.there; for_hosts = host.for_hosts }
+              record { host = host.host; of_mac = host.of_mac; held = at.held; live = at.live; there = at.there; for_hosts = host.for_hosts }
         ])
   ]
     where
@@ -208,10 +208,24 @@ module _ (plan : Plan) (learnt : Learnt) (switches : List SwitchView) (attachmen
         record { view = w; grant = still.grant; found = ap (slice_get (set switches s w)) same ∙ there; is = still.found; port_is = is.port_is }
   ]
 
+  -- an address that is given now was granted by nobody, so it has no number
+  none_yet : (g : Giving) → IsNewlyGiven v w g → number entries (pmac_number g.pmac) ≡ None
+  none_yet g new = by (number entries (pmac_number g.pmac)) refl
+    where
+      by : (o : Option ℕ) → number entries (pmac_number g.pmac) ≡ o → o ≡ None
+      by None is = refl
+      by (Some m) is =
+          let h = before.numbered (pmac_number g.pmac) m is in
+          let it = held_somewhere switches entries (pmac_number g.pmac) h.0 before.backed h.1 in
+          let now = backed_now it.pmac it.switch it.port it.there in
+          let one = one_of_number it.switch now.view it.pmac now.grant now.found now.is g new (sym it.same) in
+          let view : it.there.view ≡ v = same_Some it.there.view v (sym it.there.found ∙ ap (slice_get switches) one.1 ∙ found) in
+          absurd (none-some it.there.grant (sym new.0 ∙ ap (λ (y : Pmac). granted v y) one.0 ∙ ap (λ (q : SwitchView). granted q it.pmac) (sym view) ∙ it.there.is))
+
   pub step_entered : AreEntered plan learnt (set switches s w) attachments (all_written plan s entries gs)
   unfolding within there
   step_entered =
-      let same = alike plan s gs entries in
+      let same = alike plan s gs entries (all_weaker (IsNewlyGiven v w) (λ g. number entries (pmac_number g.pmac) ≡ None) none_yet gs fresh) in
       record {
         grants = grants_now;
         newest = newest_now;
@@ -229,5 +243,6 @@ module _ (plan : Plan) (learnt : Learnt) (switches : List SwitchView) (attachmen
         ];
         standing = λ h attachment is. same.stood h (at_port attachment.edge.0 attachment.port) ∙ before.standing h attachment is;
         numbers = λ x fits. same.numbers (pmac_number x) ∙ before.numbers x fits;
+        numbered = λ n m is. some_holder plan s gs entries n (before.numbered n m (sym (same.numbers n) ∙ is));
         count = same.count ∙ before.count;
       }

@@ -141,7 +141,8 @@ manager_ledger w s told items new addressed formed ids l head turn =
       | inl nothing ↦ nothing_entered w.plan learnt after w.switches w.attachments (written w.journal) before ns nothing
       | inr one ↦
           one_entered w.plan learnt after w.switches w.attachments (written w.journal) before ns x
-          (fits_there w.switches formed.shaped formed.bounds before.few s v x word.0.grant found word.0.found) one
+          (fits_there w.switches formed.shaped formed.bounds before.few s v x word.0.grant found word.0.found)
+          (let e = before.grants s v x word.0.grant found word.0.found in (e.host, e.held)) one
     ]
     by (tell.Place place) v learnt after ns word l before found = nothing_entered w.plan learnt after w.switches w.attachments (written w.journal) before ns l
     by (tell.Link u usable) v learnt after ns word l before found = nothing_entered w.plan learnt after w.switches w.attachments (written w.journal) before ns l

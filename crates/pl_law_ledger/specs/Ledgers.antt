@@ -8,8 +8,8 @@ use Rattle.pl_wiring.specs.declared.link.Peer.TheVariants.{HostPort}
 use Rattle.pl_wiring.specs.Peers.{peer_of}
 use Rattle.pl_wiring.specs.Plan.{Plan}
 use Rattle.pl_journal.specs.declared.entry.Entry.{Entry}
-use Rattle.pl_journal.specs.declared.entry.Entry.TheVariants.{Granted, Moved, Registered}
-use Rattle.pl_journal.specs.Places.{EdgePort, at_port, granted_at, has_stood, holder, number, registered, edge_port}
+use Rattle.pl_journal.specs.declared.entry.Entry.TheVariants.{Freed, Granted, Moved, Registered}
+use Rattle.pl_journal.specs.Places.{EdgePort, at_port, granted_at, has_stood, holder, is_live, number, registered, edge_port}
 use Rattle.pl_node.specs.declared.switch_records.Grant.{Grant}
 use Rattle.pl_node.specs.declared.switch_records.Source.{Source}
 use Rattle.pl_node.specs.ManagerViews.{Learnt, registry}
@@ -20,10 +20,11 @@ use Rattle.pl_world.specs.Changes.{host_of}
 use Rattle.pl_world.specs.Worlds.{WorldView}
 use Rattle.pl_law_addresses.specs.Registries.{number_of, registry_of}
 
--- the entries that grant or register an address, or move a host; the newest stands first
+-- the entries that grant, free or register an address, or move a host; the newest stands first
 abbrev pub ledger : List Entry → List Entry
 ledger [] = []
 ledger (Granted x h e p ∷ past) = Granted x h e p ∷ ledger past
+ledger (Freed x ∷ past) = Freed x ∷ ledger past
 ledger (Registered x n ∷ past) = Registered x n ∷ ledger past
 ledger (Moved h e p ∷ past) = Moved h e p ∷ ledger past
 ledger (entry ∷ past) = ledger past
@@ -40,6 +41,7 @@ pub record IsEntered (plan : Plan) (entries : List Entry) (s : ℕ) (x : Pmac) (
   pub host : ℕ
   pub of_mac : host_of plan g.amac ≡ Some host
   pub held : holder entries (pmac_number x) ≡ Some host
+  pub live : is_live entries (pmac_number x) ≡ true
   pub there : edge_port entries (pmac_number x) ≡ Some (at_port s x.port)
   pub for_hosts : peer_of plan s x.port ≡ HostPort
 
@@ -80,6 +82,8 @@ pub record AreEntered (plan : Plan) (learnt : Learnt) (switches : List SwitchVie
   pub standing : (h : ℕ) (attachment : AttachmentPoint) → slice_get attachments h ≡ Some attachment → has_stood plan entries h (at_port attachment.edge.0 attachment.port) ≡ true
   -- each number that is written down was registered
   pub numbers : (x : Pmac) → PmacFits x → number entries (pmac_number x) ≡ number_of (registry_of learnt) x
+  -- an address with a number was granted
+  pub numbered : (n m : ℕ) → number entries n ≡ Some m → (h : ℕ) × (holder entries n ≡ Some h)
   pub count : registered entries ≡ length (registry learnt)
 
 -- So it is in a world.

@@ -11,7 +11,7 @@ use Rattle.pl_wiring.specs.declared.label.SwitchNo.{SwitchNo}
 use Rattle.pl_wiring.specs.Plan.{IsPlan, Plan}
 use Rattle.pl_journal.specs.Text.{address_text, cause_text, host_text, journal_text, line_of, part_text, skip_text, switch_text}
 use Rattle.pl_journal.specs.declared.entry.Entry.{Entry}
-use Rattle.pl_journal.specs.declared.entry.Entry.TheVariants.{Line, Sent, Skipped, Made, Crossed, Redirected, Copied, Arrived, Taken, Dropped, Granted, Registered, Placed, LinkDown, LinkUp, Moved, Settled, Unsettled}
+use Rattle.pl_journal.specs.declared.entry.Entry.TheVariants.{Line, Sent, Skipped, Made, Crossed, Redirected, Copied, Arrived, Taken, Dropped, Granted, Registered, Freed, Placed, LinkDown, LinkUp, Moved, Settled, Unsettled}
 use Rattle.pl_journal_text.specs.declared.verb.Verb.{Verb}
 use Rattle.pl_journal_text.specs.Fields.{IsOfVerb, fields_text}
 use Rattle.pl_journal_text.specs.Ink.{address_ink, at_most_blank, byte_within, decimal_ink, free_of, host_ink, part_ink, short_within, switch_ink}
@@ -107,6 +107,7 @@ fields_once plan (Registered pmac n) (Registered pmac' n') is fit fit' verb same
     (free_of 32 (address_text pmac) at_most_blank (address_ink pmac)) (free_of 32 (address_text pmac') at_most_blank (address_ink pmac')) same in
     ap (λ z. Registered z n) (same_address pmac pmac' fit.0 fit'.0 c0.0)
     ∙ ap (λ z. Registered pmac' z) (decimal_injective n n' fit.1 fit'.1 c0.1)
+fields_once plan (Freed pmac) (Freed pmac') is fit fit' verb same = ap (λ z. Freed z) (same_address pmac pmac' fit fit' same)
 fields_once plan (Placed switch place) (Placed switch' place') is fit fit' verb same =
     let c0 = cut_once 32 (switch_text plan switch.0) (part_text place.level ++ 32 ∷ (part_text place.position ++ 32 ∷ (part_text place.pod))) (switch_text plan switch'.0) (part_text place'.level ++ 32 ∷ (part_text place'.position ++ 32 ∷ (part_text place'.pod)))
     (free_of 32 (switch_text plan switch.0) at_most_blank (switch_ink plan switch.0 is fit.0)) (free_of 32 (switch_text plan switch'.0) at_most_blank (switch_ink plan switch'.0 is fit'.0)) same in

@@ -215,6 +215,7 @@ verb_found verbs.Taken = refl
 verb_found verbs.Dropped = refl
 verb_found verbs.Granted = refl
 verb_found verbs.Registered = refl
+verb_found verbs.Freed = refl
 verb_found verbs.Placed = refl
 verb_found verbs.LinkDown = refl
 verb_found verbs.LinkUp = refl

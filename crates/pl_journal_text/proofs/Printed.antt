@@ -9,7 +9,7 @@ use Rattle.pl_wiring.specs.Plan.{IsPlan, Plan}
 use Rattle.hex.specs.Hex.{encode_lower}
 use Rattle.pl_journal.specs.Text.{address_text, cause_text, host_text, line_of, part_text, skip_text, switch_text}
 use Rattle.pl_journal.specs.declared.entry.Entry.{Entry}
-use Rattle.pl_journal.specs.declared.entry.Entry.TheVariants.{Line, Sent, Skipped, Made, Crossed, Redirected, Copied, Arrived, Taken, Dropped, Granted, Registered, Placed, LinkDown, LinkUp, Moved, Settled, Unsettled}
+use Rattle.pl_journal.specs.declared.entry.Entry.TheVariants.{Line, Sent, Skipped, Made, Crossed, Redirected, Copied, Arrived, Taken, Dropped, Granted, Registered, Freed, Placed, LinkDown, LinkUp, Moved, Settled, Unsettled}
 use Rattle.pl_journal_text.specs.declared.verb.Verb.{Verb}
 use Rattle.pl_journal_text.specs.declared.verb.Verb.TheVariants as verbs
 use Rattle.pl_journal_text.specs.Fields.{fields_text}
@@ -79,6 +79,7 @@ verb_ink verbs.Taken = refl
 verb_ink verbs.Dropped = refl
 verb_ink verbs.Granted = refl
 verb_ink verbs.Registered = refl
+verb_ink verbs.Freed = refl
 verb_ink verbs.Placed = refl
 verb_ink verbs.LinkDown = refl
 verb_ink verbs.LinkUp = refl
@@ -145,6 +146,7 @@ fields_printed plan (Registered pmac number) is fits =
     two_printed (address_text pmac) (decimal number)
     (address_ink pmac)
     (printed (decimal number) (decimal_ink number (omega (arith, fits.1))))
+fields_printed plan (Freed pmac) is fits = printed (address_text pmac) (address_ink pmac)
 fields_printed plan (Placed switch place) is fits =
     two_printed (switch_text plan switch.0) (part_text place.level ++ 32 ∷ (part_text place.position ++ 32 ∷ (part_text place.pod)))
     (switch_ink plan switch.0 is fits.0)
@@ -205,6 +207,7 @@ line_is plan (Taken id switch) = two (codes "taken") (decimal id) (switch_text p
 line_is plan (Dropped id cause) = two (codes "dropped") (decimal id) (cause_text cause)
 line_is plan (Granted pmac host edge port) = four (codes "granted") (address_text pmac) (host_text plan host.0) (switch_text plan edge.0) (decimal port)
 line_is plan (Registered pmac number) = two (codes "registered") (address_text pmac) (decimal number)
+line_is plan (Freed pmac) = one (codes "freed") (address_text pmac)
 line_is plan (Placed switch place) = four (codes "placed") (switch_text plan switch.0) (part_text place.level) (part_text place.position) (part_text place.pod)
 line_is plan (LinkDown a b) = two (codes "linkdown") (switch_text plan a.0) (switch_text plan b.0)
 line_is plan (LinkUp a b) = two (codes "linkup") (switch_text plan a.0) (switch_text plan b.0)

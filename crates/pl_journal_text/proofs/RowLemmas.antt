@@ -10,7 +10,7 @@ use Rattle.pl_journal.specs.Text.{IsHost, IsSwitch, address_text, cause_text, ho
 use Rattle.pl_journal.specs.declared.cause.Cause.{Cause}
 use Rattle.pl_journal.specs.declared.cause.Skip.{Skip}
 use Rattle.pl_journal.specs.declared.entry.Entry.{Entry}
-use Rattle.pl_journal.specs.declared.entry.Entry.TheVariants.{Line, Sent, Skipped, Made, Crossed, Redirected, Copied, Arrived, Taken, Dropped, Granted, Registered, Placed, LinkDown, LinkUp, Moved, Settled, Unsettled}
+use Rattle.pl_journal.specs.declared.entry.Entry.TheVariants.{Line, Sent, Skipped, Made, Crossed, Redirected, Copied, Arrived, Taken, Dropped, Granted, Registered, Freed, Placed, LinkDown, LinkUp, Moved, Settled, Unsettled}
 use Rattle.pl_journal_text.specs.declared.verb.Verb.TheVariants as verbs
 use Rattle.pl_journal_text.specs.Fields.{AreEndsOf, IsOfVerb, ends_text, fields_text}
 use Rattle.pl_journal_text.specs.Ink.{at_most_blank, free_of, switch_ink}
@@ -90,6 +90,12 @@ pub no_registered : (plan : Plan) (text : List ℕ) (read : Option (Pmac × ℕ)
 no_registered plan text None reads none (Registered pmac n) is same = reads (pmac, n) is.0 same
 no_registered plan text None reads none e is same = absurd (cc)
 no_registered plan text (Some x) reads none e is same = absurd (cc)
+
+pub no_freed : (plan : Plan) (text : List ℕ) (read : Option Pmac) → Reads address_text PmacFits text read → read ≡ None →
+    (e : Entry) → IsOfVerb plan verbs.Freed e → text ≢ fields_text plan e
+no_freed plan text None reads none (Freed pmac) is same = reads pmac is.0 same
+no_freed plan text None reads none e is same = absurd (cc)
+no_freed plan text (Some x) reads none e is same = absurd (cc)
 
 pub no_moved : (plan : Plan) (text : List ℕ) (read : Option (HostNo × (SwitchNo × ℕ))) → Reads (λ (x : HostNo × (SwitchNo × ℕ)). host_text plan x.0.0 ++ 32 ∷ (switch_text plan x.1.0.0 ++ 32 ∷ decimal x.1.1)) (λ x. IsHost plan x.0.0 × (IsSwitch plan x.1.0.0 × IsByte x.1.1)) text read → read ≡ None →
     (e : Entry) → IsOfVerb plan verbs.Moved e → text ≢ fields_text plan e

@@ -7,7 +7,7 @@ use Rattle.pl_journal.specs.declared.cause.Skip.TheVariants as skips
 use Rattle.pl_journal.specs.declared.entry.Entry.{Entry}
 use Rattle.pl_journal.specs.declared.entry.Entry.TheVariants as entries
 use Rattle.pl_journal_text.specs.declared.verb.Verb.{Verb}
-use Rattle.pl_journal_text.specs.declared.verb.Verb.TheVariants.{Line, Sent, Skipped, Made, Crossed, Redirected, Copied, Arrived, Taken, Dropped, Granted, Registered, Placed, LinkDown, LinkUp, Moved, Settled, Unsettled}
+use Rattle.pl_journal_text.specs.declared.verb.Verb.TheVariants.{Line, Sent, Skipped, Made, Crossed, Redirected, Copied, Arrived, Taken, Dropped, Granted, Registered, Freed, Placed, LinkDown, LinkUp, Moved, Settled, Unsettled}
 
 abbrev pub verb_text : Verb → List ℕ
 verb_text Line = codes "line"
@@ -22,6 +22,7 @@ verb_text Taken = codes "taken"
 verb_text Dropped = codes "dropped"
 verb_text Granted = codes "granted"
 verb_text Registered = codes "registered"
+verb_text Freed = codes "freed"
 verb_text Placed = codes "placed"
 verb_text LinkDown = codes "linkdown"
 verb_text LinkUp = codes "linkup"
@@ -43,6 +44,7 @@ verb_of (entries.Taken id switch) = Taken
 verb_of (entries.Dropped id cause) = Dropped
 verb_of (entries.Granted pmac host edge port) = Granted
 verb_of (entries.Registered pmac number) = Registered
+verb_of (entries.Freed pmac) = Freed
 verb_of (entries.Placed switch place) = Placed
 verb_of (entries.LinkDown a b) = LinkDown
 verb_of (entries.LinkUp a b) = LinkUp
@@ -53,8 +55,8 @@ verb_of (entries.Unsettled pending) = Unsettled
 -- all that there are, in the order of their declarations
 abbrev pub all_verbs : List Verb
 all_verbs =
-    Line ∷ Sent ∷ Skipped ∷ Made ∷ Crossed ∷ Redirected ∷ Copied ∷ Arrived ∷ Taken ∷ Dropped ∷ Granted ∷ Registered ∷ Placed ∷ LinkDown ∷ LinkUp ∷ Moved
-    ∷ Settled ∷ Unsettled ∷ []
+    Line ∷ Sent ∷ Skipped ∷ Made ∷ Crossed ∷ Redirected ∷ Copied ∷ Arrived ∷ Taken ∷ Dropped ∷ Granted ∷ Registered ∷ Freed ∷ Placed ∷ LinkDown ∷ LinkUp
+    ∷ Moved ∷ Settled ∷ Unsettled ∷ []
 
 abbrev pub all_causes : List Cause
 all_causes =

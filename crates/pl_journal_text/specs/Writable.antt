@@ -6,7 +6,7 @@ use Rattle.pl_pmac.specs.Pmac.{PmacFits}
 use Rattle.pl_wiring.specs.Plan.{Plan}
 use Rattle.pl_journal.specs.Text.{IsHost, IsSwitch, journal_text}
 use Rattle.pl_journal.specs.declared.entry.Entry.{Entry}
-use Rattle.pl_journal.specs.declared.entry.Entry.TheVariants.{Line, Sent, Skipped, Made, Crossed, Redirected, Copied, Arrived, Taken, Dropped, Granted, Registered, Placed, LinkDown, LinkUp, Moved, Settled, Unsettled}
+use Rattle.pl_journal.specs.declared.entry.Entry.TheVariants.{Line, Sent, Skipped, Made, Crossed, Redirected, Copied, Arrived, Taken, Dropped, Granted, Registered, Freed, Placed, LinkDown, LinkUp, Moved, Settled, Unsettled}
 
 -- numbers of 64, 32 and 8 bits
 abbrev pub IsLong : ℕ → Type 0
@@ -43,6 +43,7 @@ IsWritable plan (Taken id switch) = IsLong id × IsSwitch plan switch.0
 IsWritable plan (Dropped id cause) = IsLong id
 IsWritable plan (Granted pmac host edge port) = PmacFits pmac × (IsHost plan host.0 × (IsSwitch plan edge.0 × IsByte port))
 IsWritable plan (Registered pmac number) = PmacFits pmac × IsLong number
+IsWritable plan (Freed pmac) = PmacFits pmac
 IsWritable plan (Placed switch place) = IsSwitch plan switch.0 × (IsPart (2 ^ 8) place.level × (IsPart (2 ^ 8) place.position × IsPart (2 ^ 16) place.pod))
 IsWritable plan (LinkDown a b) = AreEnds plan a.0 b.0
 IsWritable plan (LinkUp a b) = AreEnds plan a.0 b.0

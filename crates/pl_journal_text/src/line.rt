@@ -79,6 +79,7 @@ fn read_fields(
         Verb::Dropped => rows::dropped(alloc, wiring, fields),
         Verb::Granted => rows::granted(alloc, wiring, fields),
         Verb::Registered => rows::registered(alloc, wiring, fields),
+        Verb::Freed => rows::freed(alloc, wiring, fields),
         Verb::Placed => rows::placed(alloc, wiring, fields),
         Verb::LinkDown => rows::link_down(alloc, wiring, fields),
         Verb::LinkUp => rows::link_up(alloc, wiring, fields),

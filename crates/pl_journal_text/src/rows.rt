@@ -151,6 +151,17 @@ pub(crate) fn registered(
     }
 }
 
+/// The fields behind `freed`.
+pub(crate) fn freed(alloc: Global, wiring: &Wiring, fields: &str) -> Result<Option<Entry>, Memory>
+    ensures { IfOk result (Reads (fields_text wiring.now) (IsOfVerb wiring.now Verb.Freed) fields.now) }
+{
+    let read = Pmac::from_text(alloc, wiring, fields)?;
+    match read {
+        None => Ok(None),
+        Some(pmac) => Ok(Some(Entry::Freed(pmac))),
+    }
+}
+
 /// The fields behind `moved`.
 pub(crate) fn moved(alloc: Global, wiring: &Wiring, fields: &str) -> Result<Option<Entry>, Memory>
     ensures { IfOk result (Reads (fields_text wiring.now) (IsOfVerb wiring.now Verb.Moved) fields.now) }

@@ -21,6 +21,7 @@ pub(crate) enum Verb {
     Dropped,
     Granted,
     Registered,
+    Freed,
     Placed,
     LinkDown,
     LinkUp,
@@ -30,7 +31,7 @@ pub(crate) enum Verb {
 }
 
 impl Verb {
-    const ALL: [Verb; 18] = [
+    const ALL: [Verb; 19] = [
         Verb::Line,
         Verb::Sent,
         Verb::Skipped,
@@ -43,6 +44,7 @@ impl Verb {
         Verb::Dropped,
         Verb::Granted,
         Verb::Registered,
+        Verb::Freed,
         Verb::Placed,
         Verb::LinkDown,
         Verb::LinkUp,
@@ -67,6 +69,7 @@ impl Verb {
             Verb::Dropped => "dropped",
             Verb::Granted => "granted",
             Verb::Registered => "registered",
+            Verb::Freed => "freed",
             Verb::Placed => "placed",
             Verb::LinkDown => "linkdown",
             Verb::LinkUp => "linkup",

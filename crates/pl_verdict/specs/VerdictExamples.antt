@@ -1,9 +1,9 @@
 -- A host says who it is: a legal journal of five entries, and changes of it. Two hosts hang on e0.0 of a fat tree of switches with four ports.
-use Rattle.std.specs.Prelude.{◌≡◌, ℕ, ◌+◌, List, [], ◌∷◌, ◌++◌, codes, map, Option, Some, None, refl}
+use Rattle.std.specs.Prelude.{◌≡◌, ℕ, ◌+◌, List, [], ◌∷◌, ◌++◌, codes, map, None, refl}
 use Rattle.std.specs.Fmt.{digits}
 use Rattle.std.specs.List.{range_with_len}
 use Rattle.std.specs.Result.{result_unwrap_or}
-use Rattle.std.proofs.Common.{arith}
+use Rattle.std.proofs.Common.{sym, arith}
 use Rattle.std.proofs.lemmas.Bool.{false≢true}
 use Rattle.hex.specs.Hex.{decode_of, decode_pairs, encode_with}
 use Rattle.pl_pmac.specs.declared.pmac.Pmac.{Pmac}
@@ -72,15 +72,12 @@ all_five_follow =
     (tt, tt) ▹ (refl, tt) ▹ (refl, refl) ▹ (record { fresh = refl; port = refl; stood = refl; edge = refl }, tt)
     ▹ ((refl, record { of_host = refl; alone = refl; takeable = refl }), tt) ▹ tt
 
--- an address is granted once
+-- an address that is live is not granted
 not_granted_again : FirstFails two_hosts [] (started ++ Granted pmac_a a (switch 0) 0 ∷ []) 5
 unfolding decode_pairs
 not_granted_again =
     (tt, tt) ▹ (refl, tt) ▹ (refl, refl) ▹ (record { fresh = refl; port = refl; stood = refl; edge = refl }, tt)
-    ▹ ((refl, record { of_host = refl; alone = refl; takeable = refl }), tt) ▹ (λ follows. some_is_none (follows.0.fresh))
-  where
-    some_is_none : ◌≡◌ {A = Option ℕ} (Some 0) None → ⊥
-    some_is_none same = absurd (cc)
+    ▹ ((refl, record { of_host = refl; alone = refl; takeable = refl }), tt) ▹ (λ follows. false≢true (sym follows.0.fresh))
 
 -- nothing is a journal of no entries
 nothing_follows : AllFollow two_hosts [] []

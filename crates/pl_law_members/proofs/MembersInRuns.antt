@@ -8,7 +8,7 @@ use Rattle.pl_wiring.specs.Plan.{Plan}
 use Rattle.pl_layouts.specs.Frames.{packet_in}
 use Rattle.pl_layouts.specs.Memberships.{flood, group_of, is_group}
 use Rattle.pl_journal.specs.declared.entry.Entry.{Entry}
-use Rattle.pl_journal.specs.declared.entry.Entry.TheVariants.{Arrived, Copied, Crossed, Dropped, Granted, Line, LinkDown, LinkUp, Made, Moved, Placed, Redirected, Registered, Sent, Settled, Skipped, Taken, Unsettled}
+use Rattle.pl_journal.specs.declared.entry.Entry.TheVariants.{Arrived, Copied, Crossed, Dropped, Freed, Granted, Line, LinkDown, LinkUp, Made, Moved, Placed, Redirected, Registered, Sent, Settled, Skipped, Taken, Unsettled}
 use Rattle.pl_journal.specs.Lossy.{has_joined, is_member}
 use Rattle.pl_node.specs.declared.reception.Reception.TheVariants.{Kept, NotMember}
 use Rattle.pl_node.specs.Accounting.{AccountsForFrames}
@@ -104,6 +104,7 @@ mark_unsent (Dropped id cause) is = absurd is
 mark_unsent (Granted pmac host switch port) is = absurd is
 mark_unsent (Registered pmac number) is = absurd is
 mark_unsent (Placed switch place) is = absurd is
+mark_unsent (Freed pmac) is = absurd is
 mark_unsent (LinkDown x y) is = absurd is
 mark_unsent (LinkUp x y) is = absurd is
 mark_unsent (Moved host edge port) is = absurd is

@@ -12,7 +12,7 @@ use Rattle.pl_node.specs.SwitchInputs.{SwitchInput, SwitchRule}
 use Rattle.pl_node.specs.SwitchInputs.SwitchInput.{Comes, Says, Tick}
 use Rattle.pl_journal.specs.declared.cause.Skip.{Skip}
 use Rattle.pl_journal.specs.declared.entry.Entry.{Entry}
-use Rattle.pl_journal.specs.declared.entry.Entry.TheVariants.{Arrived, Copied, Crossed, Dropped, Granted, Line, LinkDown, LinkUp, Made, Moved, Placed, Redirected, Registered, Sent, Settled, Skipped, Taken, Unsettled}
+use Rattle.pl_journal.specs.declared.entry.Entry.TheVariants.{Arrived, Copied, Crossed, Dropped, Freed, Granted, Line, LinkDown, LinkUp, Made, Moved, Placed, Redirected, Registered, Sent, Settled, Skipped, Taken, Unsettled}
 use Rattle.pl_journal.specs.Flights.{is_empty, sender, trail}
 use Rattle.pl_queues.specs.Queues.{items_at}
 use Rattle.pl_world.specs.declared.event.Event.{Event}
@@ -206,6 +206,7 @@ still_mark (Taken id s) is = absurd is
 still_mark (Dropped id c) is = absurd is
 still_mark (Granted x h s port) is = absurd is
 still_mark (Registered x n) is = absurd is
+still_mark (Freed x) is = absurd is
 still_mark (Placed s place) is = absurd is
 still_mark (LinkDown a b) is = absurd is
 still_mark (LinkUp a b) is = absurd is

@@ -12,7 +12,7 @@ use Rattle.pl_layouts.specs.Placement.{nowhere, same_place}
 use Rattle.pl_layouts.proofs.Exports.{place_is, place_itself}
 use Rattle.pl_wiring.specs.Plan.{Plan}
 use Rattle.pl_journal.specs.declared.entry.Entry.{Entry}
-use Rattle.pl_journal.specs.declared.entry.Entry.TheVariants.{Arrived, Copied, Crossed, Dropped, Granted, Line, LinkDown, LinkUp, Made, Moved, Placed, Redirected, Registered, Sent, Settled, Skipped, Taken, Unsettled}
+use Rattle.pl_journal.specs.declared.entry.Entry.TheVariants.{Arrived, Copied, Crossed, Dropped, Freed, Granted, Line, LinkDown, LinkUp, Made, Moved, Placed, Redirected, Registered, Sent, Settled, Skipped, Taken, Unsettled}
 use Rattle.pl_node.specs.HostInputs.{HostRule}
 use Rattle.pl_node.specs.ManagerDuties.{AnswersDuly, ManagerRule, numbered_by, with_number}
 use Rattle.pl_node.specs.ManagerViews.{Registration, registry}
@@ -115,6 +115,7 @@ after_placings (p ∷ ps) s place = after_placings ps s (if p.0 == s then p.1 el
 
 one_written : (e : Entry) (past : List Entry) (s : ℕ) → place_written (e ∷ past) s ≡ after_placings (cons_option (placing_in e) []) s (place_written past s)
 one_written (Placed t place) past s = refl
+one_written (Freed pmac) past s = refl
 one_written (Line n) past s = refl
 one_written (Sent id h frame) past s = refl
 one_written (Skipped h skip) past s = refl
@@ -151,6 +152,7 @@ mark_is_other (Line n) is = (refl, refl)
 mark_is_other (Settled n) is = (refl, refl)
 mark_is_other (Unsettled n) is = (refl, refl)
 mark_is_other (Placed t place) is = absurd is
+mark_is_other (Freed pmac) is = absurd is
 mark_is_other (Sent id h frame) is = absurd is
 mark_is_other (Skipped h skip) is = absurd is
 mark_is_other (Made id t frame) is = absurd is

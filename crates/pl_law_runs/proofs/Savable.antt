@@ -19,7 +19,7 @@ use Rattle.pl_layouts.specs.Placement.{same_place}
 use Rattle.pl_journal.specs.declared.cause.Cause.TheVariants as cause
 use Rattle.pl_journal.specs.declared.cause.Skip.{Skip}
 use Rattle.pl_journal.specs.declared.entry.Entry.{Entry}
-use Rattle.pl_journal.specs.declared.entry.Entry.TheVariants.{Arrived, Copied, Crossed, Dropped, Granted, Line, LinkDown, LinkUp, Made, Moved, Placed, Redirected, Registered, Sent, Settled, Skipped, Taken, Unsettled}
+use Rattle.pl_journal.specs.declared.entry.Entry.TheVariants.{Arrived, Copied, Crossed, Dropped, Freed, Granted, Line, LinkDown, LinkUp, Made, Moved, Placed, Redirected, Registered, Sent, Settled, Skipped, Taken, Unsettled}
 use Rattle.pl_journal.specs.Places.{is_host_port}
 use Rattle.pl_journal.specs.Savable.{IsSavable}
 use Rattle.pl_journal.specs.Text.{IsHost, IsSwitch}
@@ -296,6 +296,7 @@ module _ (plan : Plan) where
   marks w (Granted pmac host switch port) is saves = absurd is
   marks w (Registered pmac number) is saves = absurd is
   marks w (Placed switch place) is saves = absurd is
+  marks w (Freed pmac) is saves = absurd is
   marks w (LinkDown x y) is saves = absurd is
   marks w (LinkUp x y) is saves = absurd is
   marks w (Moved host edge port) is saves = absurd is

@@ -5,7 +5,7 @@ use Rattle.std.proofs.lemmas.Bool.{cases_Bool, cond-false, cond-true, eq-eqb, eq
 use Rattle.std.proofs.lemmas.Option.{slice_get-get_or}
 use Rattle.pl_wiring.specs.Labels.{label_of}
 use Rattle.pl_journal.specs.declared.entry.Entry.{Entry}
-use Rattle.pl_journal.specs.declared.entry.Entry.TheVariants.{Arrived, Copied, Crossed, Dropped, Granted, Line, LinkDown, LinkUp, Made, Moved, Placed, Redirected, Registered, Sent, Settled, Skipped, Taken, Unsettled}
+use Rattle.pl_journal.specs.declared.entry.Entry.TheVariants.{Arrived, Copied, Crossed, Dropped, Freed, Granted, Line, LinkDown, LinkUp, Made, Moved, Placed, Redirected, Registered, Sent, Settled, Skipped, Taken, Unsettled}
 use Rattle.pl_journal.specs.Flights.{before_copy, root, trail}
 use Rattle.pl_journal.specs.Places.{EdgePort, at_port, edge_port_of, is_at}
 use Rattle.pl_journal.proofs.Exports.{same_edge_port_itself}
@@ -75,6 +75,7 @@ got_within plan (Taken g s ∷ past) r h there at = got_within plan past r h the
 got_within plan (Dropped g why ∷ past) r h there at = got_within plan past r h there at
 got_within plan (Granted p n e q ∷ past) r h there at = got_within plan past r h there at
 got_within plan (Registered p n ∷ past) r h there at = got_within plan past r h there at
+got_within plan (Freed p ∷ past) r h there at = got_within plan past r h there at
 got_within plan (Placed s place ∷ past) r h there at = got_within plan past r h there at
 got_within plan (LinkDown a b ∷ past) r h there at = got_within plan past r h there at
 got_within plan (LinkUp a b ∷ past) r h there at = got_within plan past r h there at
@@ -134,6 +135,7 @@ trail_within plan (Taken g s ∷ past) id x = trail_within plan past id x
 trail_within plan (Dropped g why ∷ past) id x = trail_within plan past id x
 trail_within plan (Granted p h e q ∷ past) id x = trail_within plan past id x
 trail_within plan (Registered p n ∷ past) id x = trail_within plan past id x
+trail_within plan (Freed p ∷ past) id x = trail_within plan past id x
 trail_within plan (Placed s place ∷ past) id x = trail_within plan past id x
 trail_within plan (LinkDown a b ∷ past) id x = trail_within plan past id x
 trail_within plan (LinkUp a b ∷ past) id x = trail_within plan past id x

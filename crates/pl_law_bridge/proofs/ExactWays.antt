@@ -21,7 +21,7 @@ use Rattle.pl_wiring.specs.Peers.{IsPeer, peer_of}
 use Rattle.pl_wiring.specs.Plan.{IsPlan, Plan}
 use Rattle.pl_wiring.proofs.Exports.{at_contained, peer_says, same_switch}
 use Rattle.pl_journal.specs.declared.entry.Entry.{Entry}
-use Rattle.pl_journal.specs.declared.entry.Entry.TheVariants.{Arrived, Copied, Crossed, Dropped, Granted, Line, LinkDown, LinkUp, Made, Moved, Placed, Redirected, Registered, Sent, Settled, Skipped, Taken, Unsettled}
+use Rattle.pl_journal.specs.declared.entry.Entry.TheVariants.{Arrived, Copied, Crossed, Dropped, Freed, Granted, Line, LinkDown, LinkUp, Made, Moved, Placed, Redirected, Registered, Sent, Settled, Skipped, Taken, Unsettled}
 use Rattle.pl_journal.specs.Flights.{ends, trail}
 use Rattle.pl_journal.specs.Lossy.{mac_of_host}
 use Rattle.pl_journal.proofs.Exports.{past_more, unicast_is_not_routed}
@@ -115,6 +115,7 @@ mark_is_aside x id frame (Taken n s) is = absurd is
 mark_is_aside x id frame (Dropped n why) is = absurd is
 mark_is_aside x id frame (Granted p h e q) is = absurd is
 mark_is_aside x id frame (Registered p n) is = absurd is
+mark_is_aside x id frame (Freed p) is = absurd is
 mark_is_aside x id frame (Placed s place) is = absurd is
 mark_is_aside x id frame (LinkDown a b) is = absurd is
 mark_is_aside x id frame (LinkUp a b) is = absurd is

@@ -17,7 +17,8 @@ use Rattle.pl_wiring.specs.Plan.{IsHostMac, IsPlan, Plan}
 use Rattle.pl_journal.specs.declared.entry.Entry.{Entry}
 use Rattle.pl_journal.specs.declared.entry.Entry.TheVariants.{Granted}
 use Rattle.pl_journal.specs.Lossy.{IsNewer, mac_of_host}
-use Rattle.pl_journal.specs.Places.{EdgePort, are_alike, at_port, holder, number, registered, same_pod_and_position, edge_port}
+use Rattle.pl_journal.specs.Places.{EdgePort, are_alike, at_port, holder, is_live, live_holder, number, registered, same_pod_and_position, edge_port}
+use Rattle.pl_journal.proofs.Exports.{not_held_not_live, not_held_nowhere}
 use Rattle.pl_node.specs.declared.switch_records.Grant.{Grant}
 use Rattle.pl_node.specs.declared.trap.Trap.{Trap}
 use Rattle.pl_node.specs.ManagerViews.{Registration}
@@ -100,6 +101,14 @@ module _ (w : WorldView) (kept : ControlInvariant w) (entered : IsEnteredAll w) 
   same_holder : (n : ℕ) → holder (reverse w.journal) n ≡ holder (ledger (reverse w.journal)) n
   same_holder n = ap (λ (f : Says). f.hold n) (sym (same_says w.plan (reverse w.journal)))
 
+  same_live : (n : ℕ) → is_live (reverse w.journal) n ≡ is_live (ledger (reverse w.journal)) n
+  same_live n = ap (λ (f : Says). f.live n) (sym (same_says w.plan (reverse w.journal)))
+
+  -- who holds a live address
+  holds_live : (n h : ℕ) → is_live (ledger (reverse w.journal)) n ≡ true → holder (ledger (reverse w.journal)) n ≡ Some h → live_holder (reverse w.journal) n ≡ Some h
+  holds_live n h live held =
+      cond-true (is_live (reverse w.journal) n) (holder (reverse w.journal) n) None (same_live n ∙ live) ∙ same_holder n ∙ held
+
   same_edge_ports : (n : ℕ) → edge_port (reverse w.journal) n ≡ edge_port (ledger (reverse w.journal)) n
   same_edge_ports n = ap (λ (f : Says). f.edge_ports n) (sym (same_says w.plan (reverse w.journal)))
 
@@ -120,7 +129,7 @@ module _ (w : WorldView) (kept : ControlInvariant w) (entered : IsEnteredAll w) 
       let fits = fits_at t v x g found is in
       record {
         host = e.host;
-        held = same_holder (pmac_number x) ∙ e.held;
+        held = holds_live (pmac_number x) e.host e.live e.held;
         there = same_edge_ports (pmac_number x) ∙ e.there;
         mac = mac;
         six = six_bytes w.plan kept.counted.formed.plan g.amac e.host mac;
@@ -145,11 +154,17 @@ module _ (w : WorldView) (kept : ControlInvariant w) (entered : IsEnteredAll w) 
           let view : v ≡ at.there.view = same_Some v at.there.view (sym found ∙ ap (slice_get w.switches) one ∙ at.there.found) in
           absurd (none-some at.there.grant (sym none ∙ ap (λ (u : SwitchView). granted u x) view ∙ ap (λ y. granted at.there.view y) (sym same) ∙ at.there.is))
 
+  -- so it has no holder that is live
+  held_live_by_none : (t : ℕ) (v : SwitchView) → slice_get w.switches t ≡ Some v → (x : Pmac) → PmacFits x → is_local v x ≡ true → granted v x ≡ None → live_holder (reverse w.journal) (pmac_number x) ≡ None
+  held_live_by_none t v found x fits local none =
+      let past : List Entry = reverse w.journal in
+      cond-false (is_live past (pmac_number x)) (holder past (pmac_number x)) None (not_held_not_live past (pmac_number x) (held_by_none t v found x fits local none))
+
   -- who holds a registered address
   record HeldBy (x : Pmac) (mac : Mac) : Type 0 where
     host : ℕ
     of_mac : host_of w.plan mac ≡ Some host
-    held : holder (reverse w.journal) (pmac_number x) ≡ Some host
+    held : live_holder (reverse w.journal) (pmac_number x) ≡ Some host
     fits : PmacFits x
     unicast : is_group (mac_of x) ≡ false
 
@@ -163,7 +178,7 @@ module _ (w : WorldView) (kept : ControlInvariant w) (entered : IsEnteredAll w) 
       record {
         host = e.host;
         of_mac = ap (host_of w.plan) (sym here.to) ∙ e.of_mac;
-        held = same_holder (pmac_number x) ∙ e.held;
+        held = holds_live (pmac_number x) e.host e.live e.held;
         fits = fits;
         unicast = own_at home.switch home.view x home.found home.at fits;
       }
@@ -207,7 +222,7 @@ module _ (w : WorldView) (kept : ControlInvariant w) (entered : IsEnteredAll w) 
   unfolding view_at
   knows_addresses t v found = record {
     granted_here = granted_so t v found;
-    not_granted = held_by_none t v found;
+    not_granted = held_live_by_none t v found;
     trapped = leads_so t v found;
     pods = λ n is.
         let own_place = (kept.placed.own t).pod n (ap (λ (u : SwitchView). u.place.pod) (view_at t v found) ∙ is) in let small = own_place.1 in omega (arith, small);
@@ -254,7 +269,8 @@ module _ (w : WorldView) (kept : ControlInvariant w) (entered : IsEnteredAll w) 
       let position = low.position in
       let fits : PmacFits x = record { pod = omega (arith, pod); position = omega (arith, position); port = omega (arith, within, few); vmid = omega (arith, last) } in
       record {
-        fresh = held_by_none t v found x fits local none;
+        fresh = not_held_not_live (reverse w.journal) (pmac_number x) (held_by_none t v found x fits local none);
+        again = λ at is. absurd (not_held_nowhere (reverse w.journal) (pmac_number x) at (held_by_none t v found x fits local none) is);
         edge = ap (λ (f : Says). f.of_edge x t) (sym (same_says w.plan (reverse w.journal))) ∙ of_edge (ledger (reverse w.journal)) x t (alike_so t v found x local);
         fits = fits;
         own = pmac_unicast x fits low.pod;

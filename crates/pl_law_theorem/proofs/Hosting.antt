@@ -1,6 +1,6 @@
 -- What switches know of the hosts at their ports is what the journal says; and so all is given that each step needs but for groups.
 use Rattle.std.proofs.Common.{◌≡◌, ◌≤◌, ◌<◌, ◌+◌, ◌-◌, ◌==◌, ◌&&◌, not, nat_lt, ℕ, if◌then◌else◌, cond, Bool, true, false, Contains, List, [], ◌∷◌, length, reverse, Option, Some, None, is_none, option_map, slice_get, refl, sym, ap, subst, ◌∙◌, inl, inr, arith}
-use Rattle.std.proofs.lemmas.Bool.{and_parts, cases_Bool, cases_lt, eqb-true, false≢true, lt-ltb, ltb-true, or_right}
+use Rattle.std.proofs.lemmas.Bool.{and_from, and_parts, cases_Bool, cases_lt, eqb-true, false≢true, lt-ltb, ltb-true, or_right}
 use Rattle.std.proofs.lemmas.List.{get_or_past}
 use Rattle.std.proofs.lemmas.List.Elements.{All-contains, All-from_recursion}
 use Rattle.std.proofs.lemmas.Option.{get_or_from_slice_get, same_Some}
@@ -15,7 +15,7 @@ use Rattle.pl_wiring.specs.declared.host.Host.{Host}
 use Rattle.pl_journal.specs.declared.entry.Entry.{Entry}
 use Rattle.pl_journal.specs.declared.entry.Entry.TheVariants.{Granted}
 use Rattle.pl_journal.specs.Lossy.{mac_of_host}
-use Rattle.pl_journal.specs.Places.{EdgePort, at_port, granted_at, has_stood, is_spent, same_edge_port}
+use Rattle.pl_journal.specs.Places.{EdgePort, are_live_there, at_port, granted_at, has_stood, is_live, is_spent, same_edge_port}
 use Rattle.pl_node.specs.declared.switch_records.Grant.{Grant}
 use Rattle.pl_node.specs.Accounting.{IsShaped}
 use Rattle.pl_node.specs.PortRecords.{port_of}
@@ -35,7 +35,7 @@ use Rattle.pl_law_addresses.specs.OwnFrames.{IsOwnItem}
 use Rattle.pl_law_addresses.proofs.Exports.{exists_at, granted_here, known_same, local_here, number_past, used_is}
 use Rattle.pl_law_invariant.specs.ControlInvariant.{ControlInvariant}
 use Rattle.pl_law_ledger.specs.Ledgers.{IsBacked, ledger}
-use Rattle.pl_law_ledger.proofs.Exports.{grounds, IsEnteredAll, IsLast, same_says, Says, says, source_is, spent_there}
+use Rattle.pl_law_ledger.proofs.Exports.{grounds, IsEnteredAll, IsLast, IsLiveOne, live_there, same_says, Says, says, source_is, spent_there}
 use Rattle.pl_law_flights.specs.Standing.{KnowsHosts, StandsOn, StandsOnHosts}
 use Rattle.pl_law_flights.proofs.Exports.{host_by_mac}
 use Rattle.pl_law_theorem.proofs.Addressing.{each_entry, fits_at, host_at, is_next, knows_addresses}
@@ -92,10 +92,23 @@ module _ (w : WorldView) (kept : ControlInvariant w) (entered : IsEnteredAll w) 
       same_mac_of : (a b : Mac) (n : ℕ) → host_of w.plan a ≡ Some n → host_of w.plan b ≡ Some n → a ≡ b
       same_mac_of a b n at also = same_Some a b (sym (host_at w.plan a n at) ∙ host_at w.plan b n also)
 
+  -- each address that was granted at a port is live
+  live_so : (there : EdgePort) → are_live_there (is_live (reverse w.journal)) (reverse w.journal) there ≡ true
+  live_so there =
+      let past : List Entry = reverse w.journal in
+      ap (λ (f : Says). f.all_live (is_live past) there) (sym (same_says w.plan past))
+      ∙ live_there (is_live past) (ledger past) there (each_entry (IsBacked w.switches) (IsLiveOne (is_live past)) one_live (ledger past) entered.ledger.backed)
+    where
+      one_live : (entry : Entry) → IsBacked w.switches entry → IsLiveOne (is_live (reverse w.journal)) entry
+      one_live (Granted y h e p) there =
+          let is = entered.ledger.grants e.0 there.view y there.grant there.found there.is in
+          ap (λ (f : Says). f.live (pmac_number y)) (sym (same_says w.plan (reverse w.journal))) ∙ is.live
+      one_live entry there = tt
+
   -- a port that has given the largest vmid
-  spent_so : (t : ℕ) (v : SwitchView) → slice_get w.switches t ≡ Some v → (port : ℕ) → is_settled v.place ≡ true → is_port_spent v port ≡ true →
+  largest_given : (t : ℕ) (v : SwitchView) → slice_get w.switches t ≡ Some v → (port : ℕ) → is_settled v.place ≡ true → is_port_spent v port ≡ true →
       is_spent (reverse w.journal) (at_port t port) ≡ true
-  spent_so t v found port settled spent =
+  largest_given t v found port settled spent =
       let few = entered.ledger.few t v port found in
       let many : 65535 ≤ length (grants_at v port) = all_given (length (grants_at v port)) spent in
       let at = number_there (grants_at v port) 65534 (omega (arith, many)) in
@@ -114,6 +127,13 @@ module _ (w : WorldView) (kept : ControlInvariant w) (entered : IsEnteredAll w) 
       last_entry x fits last (Granted y h e p) there = λ same.
           ap (λ (z : Pmac). z.vmid) (same_pmac_number y x (fits_at w kept entered e.0 there.view y there.grant there.found there.is) fits same) ∙ last
       last_entry x fits last entry there = tt
+
+  -- and each of whose addresses is live
+  spent_so : (t : ℕ) (v : SwitchView) → slice_get w.switches t ≡ Some v → (port : ℕ) → is_settled v.place ≡ true → is_port_spent v port ≡ true →
+      (is_spent (reverse w.journal) (at_port t port) && are_live_there (is_live (reverse w.journal)) (reverse w.journal) (at_port t port)) ≡ true
+  spent_so t v found port settled spent =
+      and_from (is_spent (reverse w.journal) (at_port t port)) (are_live_there (is_live (reverse w.journal)) (reverse w.journal) (at_port t port))
+      (largest_given t v found port settled spent) (live_so (at_port t port))
 
   view_at : (t : ℕ) (v : SwitchView) → slice_get w.switches t ≡ Some v → (control_plane w).view t ≡ v
   view_at t v found = get_or_from_slice_get w.switches t v no_switch found

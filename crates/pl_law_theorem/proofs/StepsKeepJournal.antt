@@ -1,5 +1,5 @@
 -- Of a world and the one after a step: what was known of places is known, first addresses could be granted, and the manager numbers well.
-use Rattle.std.proofs.Common.{◌≡◌, ◌≢◌, ◌<◌, ◌+◌, ◌==◌, ◌&&◌, ℕ, true, false, List, [], ◌∷◌, length, reverse, Option, Some, None, IsSome, slice_get, refl, sym, ap, subst, subst₂, ◌∙◌, inl, inr, arith}
+use Rattle.std.proofs.Common.{◌≡◌, ◌≢◌, ◌<◌, ◌+◌, ◌==◌, ◌&&◌, ℕ, true, false, List, [], ◌∷◌, length, reverse, Option, Some, None, slice_get, refl, sym, ap, subst, subst₂, ◌∙◌, inl, inr, arith}
 use Rattle.std.specs.List.{AllByRecursion}
 use Rattle.std.proofs.lemmas.Bool.{and_parts, cases_Bool, eqb-true, false≢true}
 use Rattle.std.proofs.lemmas.Option.{same_Some, slice_get_within}
@@ -11,7 +11,8 @@ use Rattle.pl_layouts.specs.Placement.{is_known}
 use Rattle.pl_journal.specs.declared.entry.Entry.{Entry}
 use Rattle.pl_journal.specs.declared.entry.Entry.TheVariants.{Granted, Registered}
 use Rattle.pl_journal.specs.Lossy.{Needs}
-use Rattle.pl_journal.specs.Places.{holder, number, registered, same_pod_and_position}
+use Rattle.pl_journal.specs.Places.{holder, is_live, number, registered, same_pod_and_position}
+use Rattle.pl_journal.proofs.Exports.{not_held_not_live, not_held_nowhere}
 use Rattle.pl_node.specs.declared.acts.ManagerAct.{ManagerAct}
 use Rattle.pl_node.specs.declared.acts.ManagerAct.TheVariants.{Number, Say}
 use Rattle.pl_node.specs.declared.messages.ToManager.{ToManager}
@@ -119,7 +120,8 @@ module _ (old new : WorldView) (kept : ControlInvariant old) (kept_then : Contro
       let few = kept.counted.formed.plan.arity.most in
       let fits : PmacFits x = record { pod = omega (arith, pod); position = omega (arith, position); port = omega (arith, within, few); vmid = omega arith } in
       record {
-        fresh = held_by_none t before after found found_then unsettled x local fits;
+        fresh = not_held_not_live (reverse old.journal) (pmac_number x) (held_by_none t before after found found_then unsettled x local fits);
+        again = λ at is. absurd (not_held_nowhere (reverse old.journal) (pmac_number x) at (held_by_none t before after found found_then unsettled x local fits) is);
         edge = ap (λ (f : Says). f.of_edge x t) (sym (same_says old.plan (reverse old.journal)))
             ∙ of_edge (ledger (reverse old.journal)) x t (alike_none t before after found found_then unsettled x local fits);
         fits = fits;
@@ -140,12 +142,12 @@ module _ (w : WorldView) (kept : ControlInvariant w) (entered : IsEnteredAll w) 
   -- what is learnt may be numbered
   one_well : (s : ℕ) (v : SwitchView) → slice_get w.switches s ≡ Some v → (x : Pmac) (g : Grant) → granted v x ≡ Some g → (after : Learnt) (ns : List Numbering) → LearnsOne w.manager.learnt after ns x →
       OneWell w.plan (reverse w.journal) ns
-  one_well s v found x g is after ns one = subst (OneWell w.plan (reverse w.journal)) (sym one.one) ((some_held, none_numbered, next), tt)
+  one_well s v found x g is after ns one = subst (OneWell w.plan (reverse w.journal)) (sym one.one) ((is_live_now, none_numbered, next), tt)
     where
-      some_held : IsSome (holder (reverse w.journal) (pmac_number x))
-      some_held =
+      is_live_now : is_live (reverse w.journal) (pmac_number x) ≡ true
+      is_live_now =
           let e = entered.ledger.grants s v x g found is in
-          subst (λ (o : Option ℕ). IsSome o) (sym (ap (λ (f : Says). f.hold (pmac_number x)) (sym (same_says w.plan (reverse w.journal))) ∙ e.held)) refl
+          ap (λ (f : Says). f.live (pmac_number x)) (sym (same_says w.plan (reverse w.journal))) ∙ e.live
 
       none_numbered : number (reverse w.journal) (pmac_number x) ≡ None
       none_numbered =

@@ -1,8 +1,8 @@
-ghost use Rattle.std.specs.Prelude.{OnOk};
+ghost use Rattle.std.specs.Prelude.{OnOk, fold};
 ghost use Rattle.pl_node.specs.AvoidLists.{avoid_list};
 ghost use Rattle.pl_node.specs.ManagerViews.{Told};
 ghost use Rattle.pl_faults.specs.Kept.{AreTablesOf, AreTablesRenewed, IsKeptUp, IsLinkWord, IsListRenewed, IsPlaceWord};
-ghost use Rattle.pl_faults.specs.Listed.{is_in};
+ghost use Rattle.pl_faults.specs.Listed.{is_in, with_below};
 ghost use Rattle.pl_faults.specs.Missed.{IsLeading};
 
 use crate::leading::{is_none_placed, link_leading, place_leading};
@@ -22,13 +22,7 @@ impl Tables {
         let turned = link_leading(&mut self.leading, alloc, &self.reports, switch, neighbour)?;
         let mut touched = SwitchList::new(alloc);
         touched.insert(switch)?;
-        put_all_below(
-            &mut touched,
-            &self.reports,
-            &self.leading.hearers,
-            turned.as_slice(),
-        )?;
-        self.renew_lists(touched.as_slice())?;
+        self.renew_around(touched, turned.as_slice())?;
         Ok(())
     }
 
@@ -52,13 +46,18 @@ impl Tables {
     {
         let alloc = self.alloc;
         let turned = place_leading(&mut self.leading, alloc, &self.reports, switch)?;
-        let mut touched = with_hearers(alloc, &self.reports, &self.leading.hearers, switch)?;
-        put_all_below(
-            &mut touched,
-            &self.reports,
-            &self.leading.hearers,
-            turned.as_slice(),
-        )?;
+        let touched = with_hearers(alloc, &self.reports, &self.leading.hearers, switch)?;
+        self.renew_around(touched, turned.as_slice())?;
+        Ok(())
+    }
+
+    // Makes the lists of these switches anew, and of those below these others.
+    fn renew_around(&mut self, touched: SwitchList, above: &[SwitchId]) -> Result<(), Memory>
+        ensures { OnOk result (IsLeading self.old.reports self.old.leading →
+            AreTablesRenewed (is_in (fold (with_below self.old.reports self.old.leading.hearers.entries) touched above.now)) self.old self.new) }
+    {
+        let mut touched = touched;
+        put_all_below(&mut touched, &self.reports, &self.leading.hearers, above)?;
         self.renew_lists(touched.as_slice())?;
         Ok(())
     }

@@ -29,7 +29,7 @@ impl Tables {
         Ok(())
     }
 
-    /// A switch tells whether its link to a neighbour is usable.
+    /// A switch tells whether its link to a neighbour is usable. No list changes where the link is known, and as alive as it was.
     pub(crate) fn keep_link(
         &mut self,
         switch: SwitchId,
@@ -41,47 +41,11 @@ impl Tables {
         ensures kept { OnOk result (AreTablesOf self.new.reports self.new) }
         ensures handed { OnOk result ((s : SwitchId) → handed_by self.new s ≡ handed_by self.old s) }
     {
-        if knows(&self.reports, switch, neighbour) {
-            self.keep_known_link(switch, neighbour, usable)?;
-            return Ok(());
-        }
-        self.keep_new_link(switch, neighbour, usable)?;
-        Ok(())
-    }
-
-    fn keep_new_link(
-        &mut self,
-        switch: SwitchId,
-        neighbour: SwitchId,
-        usable: bool,
-    ) -> Result<(), Memory>
-        requires { AreTablesOf self.old.reports self.old }
-        ensures told { OnOk result (self.new.reports ≡ with_link self.old.reports switch neighbour usable) }
-        ensures kept { OnOk result (AreTablesOf self.new.reports self.new) }
-        ensures handed { OnOk result ((s : SwitchId) → handed_by self.new s ≡ handed_by self.old s) }
-    {
-        self.reports.report(switch, neighbour, usable)?;
-        self.renew_near(switch, neighbour)?;
-        Ok(())
-    }
-
-    // No list changes where the link is as alive as it was.
-    fn keep_known_link(
-        &mut self,
-        switch: SwitchId,
-        neighbour: SwitchId,
-        usable: bool,
-    ) -> Result<(), Memory>
-        requires kept { AreTablesOf self.old.reports self.old }
-        requires known { list_any (λ x. same_switch x neighbour) (neighbours self.old.reports switch) ≡ true }
-        ensures told { OnOk result (self.new.reports ≡ with_link self.old.reports switch neighbour usable) }
-        ensures kept { OnOk result (AreTablesOf self.new.reports self.new) }
-        ensures handed { OnOk result ((s : SwitchId) → handed_by self.new s ≡ handed_by self.old s) }
-    {
+        let known = knows(&self.reports, switch, neighbour);
         let was = self.reports.is_alive(switch, neighbour);
         self.reports.report(switch, neighbour, usable)?;
         let now = self.reports.is_alive(switch, neighbour);
-        if is_still(now, was) {
+        if known && is_still(now, was) {
             return Ok(());
         }
         self.renew_near(switch, neighbour)?;

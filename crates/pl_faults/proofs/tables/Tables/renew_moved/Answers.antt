@@ -1,4 +1,3 @@
-use Rattle.std.proofs.Common.{◌∙◌}
 use Rattle.std.specs.Prelude.{fold}
 use Rattle.pl_faults.specs.Listed.{with_below}
 use Rattle.pl_faults.proofs.Touched.{near_kept}
@@ -10,9 +9,8 @@ returns c told word kept =
     let old = c.args.self.now in let after = old.reports in let s = c.args.switch in
     let t = c.in_ok-turned.ensures told word kept.leading in let known = c.place_leading.new.leading in
     let hearers = known.hearers.entries in let heard = t.leading.heard in
-    near_kept s told old c.renew_lists.new.self word.word known c.in_ok-turned.turned (first s told after word hearers heard) t
+    near_kept s told old c.renew_around.new.self word.word known c.in_ok-turned.turned (first s told after word hearers heard) t
     (place_lists s told after word hearers heard) (itself_first s told after word hearers heard) (first_told s told after word hearers heard)
-    c.as_slice-2.result.now kept
-    (c.as_slice-2.ensures.items ∙ c.in_ok-put_all_below.ensures
-    ∙ (λ i. fold (with_below after hearers) (c.in_ok-touched.ensures i) (c.as_slice.ensures.items i)))
-    (c.in_ok-renew_lists.ensures t.leading)
+    (fold (with_below after hearers) c.in_ok-touched.touched c.as_slice.result.now) kept
+    (λ i. fold (with_below after hearers) (c.in_ok-touched.ensures i) (c.as_slice.ensures.items i))
+    (c.in_ok-renew_around.ensures t.leading)

@@ -50,36 +50,39 @@ globalThis.Drawing = (() => {
         return [counts[placed], counts[granted], counts[freed], counts[moved], isLoads ? counts[crossed] : 0].join(" ");
     };
 
-    // an act that draws a box on a clear place: it has no point in common with another
-    const anew = (p, box, draw) => () => {
-        p.pen.c.clearRect(...p.pen.placeOf(p.shown(box)));
-        draw();
-    };
-
     const isSmall = (p, box) => box.pod === undefined && box.width * p.scale < BARE;
 
-    // where two looks differ, as acts that draw it anew: of each box that is another one, where a small one of a switch covers what it was
+    // The boxes where two looks differ: of a switch { box, number }, of a port { box, spot }, of a folded pod { box }.
     const changes = (p, before, now) => {
-        const [boxes, small] = [new Map(), []];
+        const found = new Map(); // by their boxes
         const { switches, cells } = p.layout;
         for (let number = 0; number < switches.length; number++) {
             if (now.places[number] === before.places[number] && now.loads[number] === before.loads[number]) continue;
-            const box = switches[number];
-            if (isSmall(p, box)) small.push(p.fabric.switches[number]);
-            else if (!boxes.has(box)) boxes.set(box, box.pod === undefined ? () => oneSwitch(p, p.fabric.switches[number]) : () => foldedBox(p, now, box));
+            found.set(switches[number], { box: switches[number], number });
         }
-        now.spots.forEach((spot, host) => {
-            if (spot === before.spots[host] && now.newest[host] === before.newest[host]) return;
-            for (const one of [spot, before.spots[host]]) {
-                const box = cells.get(one);
-                boxes.set(box, box.pod === undefined ? () => atPort(p, now, one) : () => foldedBox(p, now, box));
-            }
-        });
-        const acts = [...boxes].map(([box, draw]) => anew(p, box, draw));
-        return acts.length + small.length === 0 ? [] : [() => {
-            smallSwitches(p, small);
-            p.pen.together(() => acts.forEach(draw => draw()));
-        }];
+        for (let host = 0; host < now.spots.length; host++) {
+            if (now.spots[host] === before.spots[host] && now.newest[host] === before.newest[host]) continue;
+            for (const spot of [now.spots[host], before.spots[host]]) found.set(cells.get(spot), { box: cells.get(spot), spot });
+        }
+        return [...found.values()];
+    };
+
+    const oneBox = (p, look, { box, number, spot }) => {
+        if (box.pod !== undefined) foldedBox(p, look, box);
+        else if (number !== undefined) oneSwitch(p, p.fabric.switches[number]);
+        else atPort(p, look, spot);
+    };
+
+    // Draws these boxes anew: a small one of a switch covers what it was, and any other has a place without a point in common with another.
+    const redraw = (p, look, found) => {
+        const isSmallSwitch = ({ box, number }) => number !== undefined && isSmall(p, box);
+        smallSwitches(p, found.filter(isSmallSwitch).map(({ number }) => p.fabric.switches[number]));
+        const others = found.filter(one => !isSmallSwitch(one));
+        if (others.length === 0) return;
+        p.pen.together(() => others.forEach(one => {
+            p.pen.c.clearRect(...p.pen.placeOf(p.shown(one.box)));
+            oneBox(p, look, one);
+        }));
     };
 
     const fillOf = (p, level) => (level === null ? p.colour.paper : [p.colour.edge, p.colour.aggregation, p.colour.core][level]);
@@ -93,7 +96,7 @@ globalThis.Drawing = (() => {
     const switchTexts = (p, s, at, place, ink) => {
         const { pen, colour, state } = p;
         const room = at.width - 4;
-        const names = s.level === 2 ? [s.label] : [s.label, s.label.replace(/^.*\./, ".")];
+        const names = [s.label, s.label.replace(/^.*\./, ".")];
         const loads = [Words.plural(state.crossings[s.number], "frame"), `${state.crossings[s.number]}`];
         const last = p.isLoads ? loads : p.isOfBridge ? [] : placeTexts(place);
         if (at.height >= THREE_ROWS) {
@@ -176,9 +179,10 @@ globalThis.Drawing = (() => {
         frame(p, at, isHere ? colour.host : colour.paper, isHere, isHere, isMarked);
         const rows = at.height > 32 ? 3 : at.height > 17 ? 2 : 1;
         const size = Math.min(12, at.height / (rows + 0.4));
-        const room = at.width - 4;
+        const isNarrow = at.width < 24; // for a name of four letters
+        const room = at.width - (isNarrow ? 2 : 4);
         const lineAt = n => at.y + 0.5 + (n - (rows - 1) / 2) * (at.height / (rows + 0.6));
-        pen.write([host.name], at.x, lineAt(0), room, size, colour.ink, true);
+        pen.write([host.name], at.x, lineAt(0), room, size, colour.ink, !isNarrow);
         const addresses = p.isOfBridge ? [host.ip, host.ip.replace(/^\d+\.\d+/, "")] : addressTexts(address, isHere);
         if (rows > 1) pen.write(addresses, at.x, lineAt(1), room, size * 0.95, colour.ink);
         if (rows > 2 && !p.isOfBridge) pen.write([host.ip], at.x, lineAt(2), room, size * 0.85, colour.muted);
@@ -264,5 +268,5 @@ globalThis.Drawing = (() => {
         pen.write([p.nameOf(place)], at.x, at.y + 0.5, at.width - 4, 11, colour.ink, true);
     };
 
-    return { draw, lookOf, keyOf, changes, oneSwitch, oneHost, named, placeTexts };
+    return { draw, lookOf, keyOf, changes, redraw, oneSwitch, oneHost, named, placeTexts };
 })();

@@ -4,8 +4,7 @@
 globalThis.Ground = (() => {
     const LEVELS = 8; // of the look of a line: its failed links times this, and the level of its load
     const OUT = 2 ** 20; // instead, where none of its links is of the tree of learning bridges
-    const PIECE = 64; // points of a line for which one place is drawn anew
-    const BESIDE = 6; // points around it
+    const BESIDE = 6; // points around a line
     const LONG = 1000; // more lines with their loads than this take long
     const PART = 300; // lines that are drawn in a few milliseconds
     const HOST_LINK = 1; // how wide the line to a host is
@@ -131,17 +130,8 @@ globalThis.Ground = (() => {
         return [counts[linkdown], counts[linkup], counts[moved], isLoads ? counts[crossed] : 0].join(" ");
     };
 
-    // The places where a line shows, piece by piece; in its middle with a cross and a number.
-    const placesOf = ([x, y, toX, toY]) => {
-        const [width, height] = [toX - x, toY - y];
-        const count = Math.max(1, Math.ceil(Math.max(Math.abs(width), Math.abs(height)) / PIECE));
-        const [across, down] = [width / count, height / count];
-        const pieces = Array.from({ length: count }, (_, n) => ({
-            x: x + n * across + Math.min(0, across) - BESIDE, y: y + n * down + Math.min(0, down) - BESIDE,
-            width: Math.abs(across) + 2 * BESIDE, height: Math.abs(down) + 2 * BESIDE,
-        }));
-        return [...pieces, { x: x + width / 2 - 30, y: y + height / 2 - 10, width: 60, height: 20 }];
-    };
+    // the places where a line shows, with that of a cross and a number in its middle
+    const placesOf = ([x, y, toX, toY]) => [...Pen.piecesOf([x, y, toX, toY]), { x: (x + toX) / 2 - 30, y: (y + toY) / 2 - 10, width: 60, height: 20 }];
 
     // the places on the canvas where two looks differ; all of it where these are more than `most`
     const changes = (p, before, now, most) => {

@@ -1,20 +1,21 @@
 "use strict";
-// What is drawn of a picture's fabric, kept on canvases that lie on each other: the bed of the ground, the ground above it, and the boxes.
+// What is drawn of a picture's fabric, kept on canvases: the bed of the ground, the ground above it, and the boxes. The sheet, which lies below the
+// canvas of the picture, has ground and boxes on each other, and the picture's own canvas what moves.
 // Where a step changes what is seen at a few places, these are drawn anew alone, so that it costs little in a large fabric too. Where it
-// changes thousands of lines they are drawn coarsely, until no other step comes for a while.
+// changes many, they may wait until what moves is on the screen; thousands of lines are drawn coarsely, until no other step comes for a while.
 globalThis.Layers = (() => {
     const MOST_OF_GROUND = 40; // of more places than this all of the ground is drawn anew
+    const MANY = 40; // more places than this take milliseconds
+    const MOST_OF_SHEET = 16; // of more places than this all of the sheet is put together anew
     const ALL = null;
 
     class Layer {
         // `below` is the layer that it has a copy of below what it draws; a layer without one is clear where nothing is drawn.
         constructor(drawer, most, below, isClear) {
             this.canvas = document.createElement("canvas");
-            this.canvas.className = "layer";
-            this.canvas.setAttribute("aria-hidden", "true");
             this.context = this.canvas.getContext("2d", { alpha: isClear });
             this.pen = Pen.of(this.context);
-            Object.assign(this, { drawer, most, below, isClear, view: "", key: "", look: null, isCoarse: false });
+            Object.assign(this, { drawer, most, below, isClear, view: "", key: "", look: null, isCoarse: false, isLate: false });
             Object.assign(this, { raster: null, rasterKey: "" }); // by what it is drawn coarsely, and of what
             Object.assign(this, { draft: null, parts: [] }); // on which it is finished, and what is to be drawn there still
         }
@@ -25,22 +26,30 @@ globalThis.Layers = (() => {
             this.raster = null;
         }
 
-        // The places where it is to be drawn anew now, or ALL of it.
-        stale(p, view) {
+        // The places where it is to be drawn anew now, or ALL of it. None while many of them may wait.
+        stale(p, view, mayWait) {
             const { drawer, look: before } = this;
             const key = drawer.keyOf(p);
+            this.isLate = false;
             if (view === this.view && key === this.key) return [];
-            this.look = drawer.lookOf(p);
-            const places = view === this.view ? drawer.changes(p, before, this.look, this.most) : ALL;
-            this.view = view;
-            this.key = key;
+            const look = drawer.lookOf(p);
+            const places = view === this.view ? drawer.changes(p, before, look, this.most) : ALL;
+            if (mayWait && view === this.view && this.takesLong(places)) {
+                this.isLate = true;
+                return [];
+            }
+            Object.assign(this, { view, key, look });
             return places;
         }
 
-        // brings it up to now
-        renew(p, view, size) {
+        takesLong(places) {
+            return places === ALL || places.length > MANY || (this.isCoarse && places.length > 0);
+        }
+
+        // Brings it up to now, unless that takes long and may wait. Answers the places where it changed, or ALL.
+        renew(p, view, size, mayWait) {
             const { canvas, pen, drawer } = this;
-            const places = this.stale(p, view);
+            const places = this.stale(p, view, mayWait);
             const { pen: former } = p;
             p.pen = pen;
             const isAll = places === ALL || (this.isCoarse && places.length > 0);
@@ -51,14 +60,10 @@ globalThis.Layers = (() => {
                 this.parts = [];
                 if (this.isCoarse) this.drawCoarsely(p, view, size);
                 else this.draw(p, size);
-            } else for (const place of places) this.drawPlace(p, size, place);
+            } else if (places.length > 0 && drawer.redraw) drawer.redraw(p, this.look, places);
+            else for (const place of places) p.within(Pen.whole(place, size.ratio), this.context, () => this.draw(p, size));
             p.pen = former;
-        }
-
-        // draws a place anew: by an act that does so alone, or all that is in sight there
-        drawPlace(p, size, place) {
-            if (typeof place === "function") place();
-            else p.within(whole(place, size.ratio), this.context, () => this.draw(p, size));
+            return isAll ? ALL : places;
         }
 
         // draws what is in sight, its many lines by a raster
@@ -122,21 +127,18 @@ globalThis.Layers = (() => {
         return { canvas, context, pen: Pen.of(context) };
     };
 
-    // the place in whole points of the screen
-    const whole = ({ x, y, width, height }, ratio) => {
-        const [left, top] = [Math.floor(x * ratio), Math.floor(y * ratio)];
-        const [right, bottom] = [Math.ceil((x + width) * ratio), Math.ceil((y + height) * ratio)];
-        return { x: left / ratio, y: top / ratio, width: (right - left) / ratio, height: (bottom - top) / ratio };
-    };
-
-    // The ground lies below the canvas of a picture, on which there is a copy of the boxes below what moves: a browser without a graphics card
-    // takes a copy of each canvas that is on the page in each step, whether it has changed or not.
+    // The sheet is one canvas, since a browser without a graphics card takes a copy of each that is on the page in each step, whether it has changed
+    // or not.
     class Layers {
         constructor(canvas) {
             this.bed = new Layer(Ground.bed, 0, null, false);
             this.ground = new Layer(Ground, MOST_OF_GROUND, this.bed, false);
             this.boxes = new Layer(Drawing, 0, null, true);
-            canvas.before(this.ground.canvas);
+            this.sheet = document.createElement("canvas");
+            this.sheet.className = "layer";
+            this.sheet.setAttribute("aria-hidden", "true");
+            this.context = this.sheet.getContext("2d", { alpha: false });
+            canvas.before(this.sheet);
         }
 
         // all is drawn anew the next time
@@ -149,22 +151,39 @@ globalThis.Layers = (() => {
             return this.ground.isCoarse;
         }
 
+        // whether a part of it is still as it was before the last step
+        get isLate() {
+            return this.ground.isLate || this.boxes.isLate;
+        }
+
         finish(p, size) {
-            if (this.ground.isCoarse) this.ground.finish(p, size);
+            this.ground.finish(p, size);
+            if (!this.ground.isCoarse) this.put(p, size, ALL);
         }
 
-        // the boxes on a canvas, and nothing else
-        putBoxes(context) {
-            context.setTransform(1, 0, 0, 1, 0, 0);
-            context.globalCompositeOperation = "copy";
-            context.drawImage(this.boxes.canvas, 0, 0);
-            context.globalCompositeOperation = "source-over";
+        // puts ground and boxes together at these places of the sheet, or at ALL of it
+        put({ canvas }, { ratio }, places) {
+            const { sheet, context, ground, boxes } = this;
+            if (places === ALL) {
+                if (sheet.width !== canvas.width) sheet.width = canvas.width;
+                if (sheet.height !== canvas.height) sheet.height = canvas.height;
+                for (const layer of [ground, boxes]) context.drawImage(layer.canvas, 0, 0);
+                return;
+            }
+            for (const place of places) {
+                const { x, y, width, height } = Pen.whole(place, ratio);
+                const at = [x, y, width, height].map(part => Math.round(part * ratio));
+                for (const layer of [ground, boxes]) context.drawImage(layer.canvas, ...at, ...at);
+            }
         }
 
-        // brings all up to now
-        bring(p, size) {
+        // brings all up to now, where `mayWait` all that does not take long
+        bring(p, size, mayWait) {
             const view = [...Object.values(size), p.scale, p.x, p.y, p.isLoads, p.scene.subject !== null].join(" ");
-            for (const layer of [this.bed, this.ground, this.boxes]) layer.renew(p, view, size);
+            this.bed.renew(p, view, size, mayWait);
+            const changed = [this.ground, this.boxes].map(layer => layer.renew(p, view, size, mayWait));
+            const isAll = changed.includes(ALL) || changed[0].length + changed[1].length > MOST_OF_SHEET;
+            this.put(p, size, isAll ? ALL : [...changed[0], ...changed[1].map(one => p.placeOf(one.box))]);
         }
     }
 

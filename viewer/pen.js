@@ -6,11 +6,33 @@ globalThis.Pen = (() => {
     const STEPS = 4; // sizes of a font in a point
     const MEASURED = 100; // the size at which characters are measured
     const WIDTHS = { plain: new Map(), bold: new Map() };
+    const PIECE = 64; // points of a line that are one place
+    const BESIDE = 6; // points around it
+    const MOST = 400; // places that are cleared one by one
+
+    // the places where a line shows, piece by piece
+    const piecesOf = ([x, y, toX, toY]) => {
+        const [width, height] = [toX - x, toY - y];
+        const count = Math.max(1, Math.ceil(Math.max(Math.abs(width), Math.abs(height)) / PIECE));
+        const [across, down] = [width / count, height / count];
+        return Array.from({ length: count }, (_, n) => ({
+            x: x + n * across + Math.min(0, across) - BESIDE, y: y + n * down + Math.min(0, down) - BESIDE,
+            width: Math.abs(across) + 2 * BESIDE, height: Math.abs(down) + 2 * BESIDE,
+        }));
+    };
+
+    // the place in whole points of the screen
+    const whole = ({ x, y, width, height }, ratio) => {
+        const [left, top] = [Math.floor(x * ratio), Math.floor(y * ratio)];
+        const [right, bottom] = [Math.ceil((x + width) * ratio), Math.ceil((y + height) * ratio)];
+        return { x: left / ratio, y: top / ratio, width: (right - left) / ratio, height: (bottom - top) / ratio };
+    };
 
     class Pen {
         constructor(context) {
             this.c = context;
             this.waiting = null; // the texts that are written later
+            this.noted = null; // the places of what was drawn since it was clear, where they are noted
             this.begin(1);
         }
 
@@ -18,6 +40,21 @@ globalThis.Pen = (() => {
         begin(ratio) {
             this.ratio = ratio;
             this.fontSize = 0; // of the context's font, below 0 where it is bold
+        }
+
+        // what it draws covers no more than a place of this middle and size, and a point around it
+        note(x, y, width, height) {
+            if (this.noted && this.noted.length <= MOST) this.noted.push({ x: x - width / 2 - 1, y: y - height / 2 - 1, width: width + 2, height: height + 2 });
+        }
+
+        // clears a canvas of this size where something was drawn
+        clear(width, height) {
+            const places = this.noted.length > MOST ? [{ x: 0, y: 0, width, height }] : this.noted;
+            for (const place of places) {
+                const { x, y, width: across, height: down } = whole(place, this.ratio);
+                this.c.clearRect(x, y, across, down);
+            }
+            this.noted = [];
         }
 
         // In steps, so that there are few fonts: a browser takes long for each that is new.
@@ -89,6 +126,7 @@ globalThis.Pen = (() => {
             c.fillStyle = ink;
             for (const at of boxes) {
                 const [x, y, width, height] = this.placeOf(at);
+                this.note(at.x, at.y, at.width, at.height);
                 c.fillRect(x, y, Math.max(less, width - less), Math.max(less, height - less));
             }
         }
@@ -98,6 +136,7 @@ globalThis.Pen = (() => {
             const { c } = this;
             const [x, y, wide, high] = this.placeOf(at);
             const radius = Math.min(5, wide / 5);
+            this.note(at.x, at.y, at.width, at.height);
             const shape = (less, colour) => {
                 c.beginPath();
                 c.roundRect(x + less, y + less, Math.max(0, wide - 2 * less), Math.max(0, high - 2 * less), Math.max(0, radius - less));
@@ -131,6 +170,7 @@ globalThis.Pen = (() => {
 
         dot(x, y, radius, fill, ink) {
             const { c } = this;
+            this.note(x, y, 2 * radius, 2 * radius);
             c.beginPath();
             c.roundRect(x - radius, y - radius, 2 * radius, 2 * radius, radius);
             c.fillStyle = fill;
@@ -140,6 +180,7 @@ globalThis.Pen = (() => {
 
         // fills most of a box
         spot(at, ink) {
+            this.note(at.x, at.y, at.width, at.height);
             this.c.fillStyle = ink;
             this.c.fillRect(at.x - at.width * 0.35, at.y - at.height * 0.35, at.width * 0.7, at.height * 0.7);
         }
@@ -150,6 +191,7 @@ globalThis.Pen = (() => {
             c.strokeStyle = ink;
             c.lineWidth = width;
             c.setLineDash(dash);
+            if (this.noted) this.noted.push(...segments.flatMap(piecesOf));
             for (const [x, y, toX, toY] of segments) {
                 c.beginPath();
                 c.moveTo(x, y);
@@ -204,6 +246,7 @@ globalThis.Pen = (() => {
             const [x, y] = [a.x + (b.x - a.x) * 0.6, a.y + (b.y - a.y) * 0.6];
             c.beginPath();
             c.moveTo(x + 7 * Math.cos(angle), y + 7 * Math.sin(angle));
+            this.note(x, y, 16, 16);
             for (const turn of [2.5, -2.5]) c.lineTo(x + 7 * Math.cos(angle + turn), y + 7 * Math.sin(angle + turn));
             c.fillStyle = ink;
             c.fill();
@@ -215,6 +258,7 @@ globalThis.Pen = (() => {
             const [width, height] = [Math.max(size + 5, this.widthOf(text, size, true) + size * 0.8), size + 5];
             this.font(size, true);
             const left = Math.min(Math.max(1, x - width / 2), Math.max(1, most - width - 1));
+            this.note(left + width / 2, y, width + 2, height + 2);
             c.beginPath();
             c.roundRect(left, y - height / 2, width, height, radius);
             c.fillStyle = fill;
@@ -227,5 +271,5 @@ globalThis.Pen = (() => {
         }
     }
 
-    return { of: context => new Pen(context) };
+    return { of: context => new Pen(context), piecesOf, whole };
 })();

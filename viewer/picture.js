@@ -1,18 +1,22 @@
 "use strict";
-// A picture of a scene on a canvas: what part of the drawing is in sight, and where things are there. The fabric itself is kept
-// on canvases of its own, in Layers, so that a step draws its frames alone.
+// A picture of a scene on a canvas: what part of the drawing is in sight, and where things are there. The fabric itself lies below it, on a
+// canvas of Layers, so that a step draws what moves alone.
 globalThis.Picture = (() => {
     const NAMES = ["paper", "ink", "muted", "link", "pod", "edge", "aggregation", "core", "host", "now", "nowink", "failed",
         "load1", "load2", "load3", "load4", "load5", "loadink"];
     const REST = 200; // milliseconds without another picture after which one is finished
+    const LATEST = 100; // milliseconds that a part of the fabric may be behind
 
     class Picture {
         constructor(canvas) {
             this.canvas = canvas;
             this.layers = Layers.make(canvas);
             this.pen = Pen.of(canvas.getContext("2d"));
-            Object.assign(this, { width: 0, height: 0, scale: 1, x: 0, y: 0, progress: 1, isLoads: false, isOfBridge: false, open: new Set(), touched: null, place: null });
+            this.pen.noted = [];
+            Object.assign(this, { width: 0, height: 0, scale: 1, x: 0, y: 0, progress: 1, place: null });
+            Object.assign(this, { isLoads: false, isOfBridge: false, open: new Set(), touched: null });
             Object.assign(this, { run: null, fabric: null, layout: null, state: null, scene: null, names: new Map(), lines: null, finishing: 0 });
+            Object.assign(this, { mayWait: false, waits: false, since: 0 }); // whether the fabric may be behind, whether it waits, and since when it is
         }
 
         // Takes the size that the canvas has on the page, in points. It is asked for where that may have changed alone: a page that
@@ -71,6 +75,9 @@ globalThis.Picture = (() => {
 
         // what is drawn from now on
         set(state, scene) {
+            const isBehind = this.layers.isLate;
+            if (!isBehind) this.since = performance.now();
+            this.mayWait = !isBehind || performance.now() - this.since < LATEST;
             this.state = state;
             this.scene = scene;
             this.touched = null;
@@ -133,6 +140,12 @@ globalThis.Picture = (() => {
             this.pen.begin(this.pen.ratio);
         }
 
+        // the place on the canvas of a box of the drawing, with a point around it
+        placeOf(box) {
+            const { x, y, width, height } = this.shown(box);
+            return { x: x - width / 2 - 1, y: y - height / 2 - 1, width: width + 2, height: height + 2 };
+        }
+
         isSeen({ x, y, width, height }) {
             const { sight } = this;
             return x + width > sight.x && y + height > sight.y && x - width < sight.x + sight.width && y - height < sight.y + sight.height;
@@ -190,20 +203,35 @@ globalThis.Picture = (() => {
         }
 
         draw() {
-            const { canvas, width, height } = this;
+            const { canvas, width, height, pen } = this;
             const ratio = window.devicePixelRatio || 1;
             if (canvas.width !== Math.round(width * ratio)) canvas.width = Math.round(width * ratio);
             if (canvas.height !== Math.round(height * ratio)) canvas.height = Math.round(height * ratio);
             clearTimeout(this.finishing);
-            if (!this.scene || width === 0 || height === 0) {
-                this.prepare(width, height, ratio, true);
-                return;
-            }
-            this.layers.bring(this, { width, height, ratio });
+            this.ready(ratio);
+            pen.clear(width, height);
+            if (!this.scene || width === 0 || height === 0) return;
+            this.layers.bring(this, { width, height, ratio }, this.mayWait);
+            if (this.layers.isLate) this.follow();
             if (this.layers.isCoarse) this.finishing = setTimeout(() => this.finish(), REST);
-            this.layers.putBoxes(this.pen.c);
             this.ready(ratio);
             Traces.draw(this);
+        }
+
+        // draws what is behind once the page is on the screen as it is
+        follow() {
+            if (this.waits) return;
+            this.waits = true;
+            requestAnimationFrame(() => setTimeout(() => {
+                this.waits = false;
+                this.catchUp();
+            }));
+        }
+
+        // draws what is behind now
+        catchUp() {
+            this.mayWait = false;
+            if (this.layers.isLate) this.draw();
         }
 
         // draws what was drawn coarsely as it is to stay, part by part so that a step need not wait for all of it

@@ -1,7 +1,7 @@
 "use strict";
 // How long the page takes with a large fabric: it opens a run of k = 24 with 3,456 hosts and 150,001 entries, and steps in it, near and
-// far, and where the picture of the fabric is drawn anew. Each step is measured by the clock until it is painted, and by the
-// processor time of the page's own thread, which is little more where other programs run beside it.
+// far, and where the picture of the fabric is drawn anew. Each step is measured by the clock until it is painted, and until what of the fabric
+// waits for the next picture is painted too; and by the processor time of the page's own thread, which is little more where other programs run.
 //
 //     node viewer/tests/measure.js PROGRAM [STEPS [PASSES [KINDS]]]
 //
@@ -48,17 +48,23 @@ const worked = async browser => {
     return 1000 * metrics.find(({ name }) => name === "ThreadTime").value;
 };
 
+// in the page: the milliseconds until a step is painted, and until nothing of the fabric is behind
+const STEP = `async n => { const painted = () => new Promise(done => requestAnimationFrame(() => setTimeout(done))); const { layers } = Page.picture;
+    const begun = performance.now(); const first = painted(); Page.step(Page.toMeasure(n)); await first; const step = performance.now() - begun;
+    while (layers.isLate) await painted(); return [step, performance.now() - begun]; }`;
+
 // Steps of a kind: `before` is done first, and `to` says in the page to which entry step n goes.
 const steps = async (browser, count, before, to) => {
-    const [clock, processor] = [[], []];
-    await browser.value(`(() => { ${before}; Page.draw(false); Page.toMeasure = ${to}; Page.step(Page.toMeasure(${count - 1})); })()`);
+    const [clock, whole, processor] = [[], [], []];
+    await browser.value(`(() => { ${before}; Page.draw(false); Page.toMeasure = ${to}; Page.step(Page.toMeasure(${count - 1})); Page.picture.catchUp(); })()`);
     for (let n = 0; n < count; n++) {
         const begun = await worked(browser);
-        clock.push(await browser.value(`(async () => { const begun = performance.now(); Page.step(Page.toMeasure(${n}));
-            await new Promise(done => requestAnimationFrame(() => setTimeout(done))); return performance.now() - begun; })()`));
+        const [step, all] = await browser.value(`(${STEP})(${n})`);
+        clock.push(step);
+        whole.push(all);
         processor.push(await worked(browser) - begun);
     }
-    return { clock, processor };
+    return { clock, whole, processor };
 };
 
 // to and back over the entries with these words, the last ones first
@@ -103,7 +109,7 @@ const main = async () => {
             const taken = [await steps(browser, count, before, goes)];
             while (taken.length < passes) taken.push(await steps(browser, count, "", goes));
             console.log(`${name}, beside ${os.loadavg()[0]} programs:`);
-            for (const [what, told] of [["clock", "by the clock"], ["processor", "of processor"]]) {
+            for (const [what, told] of [["clock", "by the clock"], ["whole", "with what follows"], ["processor", "of processor, with that"]]) {
                 const of = taken.map(pass => pass[what]);
                 console.log(`    ${told}, first: ${said(SLOW, of[0])}`);
                 if (passes > 1) console.log(`    ${told}, least of ${passes}: ${said(SLOW, leastOf(of))}`);

@@ -197,7 +197,7 @@ const loads_and_the_chart = async (browser, width) => {
 // the points of a picture's canvas, or of all of its canvases as they lie on each other
 const points = canvas => `(() => { const { canvas: top, layers } = Page.picture; const sheet = document.createElement("canvas");
     [sheet.width, sheet.height] = [top.width, top.height]; const context = sheet.getContext("2d", { willReadFrequently: true });
-    for (const layer of ${canvas || "[layers.ground.canvas, top]"}) context.drawImage(layer, 0, 0);
+    for (const layer of ${canvas || "[layers.sheet, top]"}) context.drawImage(layer, 0, 0);
     return context.getImageData(0, 0, sheet.width, sheet.height).data; })()`;
 const GROUND = points("[layers.ground.canvas]");
 const BOXES = points("[layers.boxes.canvas]");
@@ -213,7 +213,7 @@ const a_place_is_drawn_anew_as_all_is = async browser => {
     for (const key of ["0", "l"]) {
         await browser.press(key);
         const differ = await browser.value(`(() => { const { layers } = Page.picture; const differ = [];
-            for (const n of ${JSON.stringify(changing.slice(-8))}) { Page.step(n - 1); Page.step(n); const kept = ${points()}; layers.forget(); Page.draw(false);
+            for (const n of ${JSON.stringify(changing.slice(-8))}) { Page.step(n - 1); Page.step(n); Page.picture.catchUp(); const kept = ${points()}; layers.forget(); Page.draw(false);
                 const whole = ${points()}; let most = 0; for (let at = 0; at < kept.length; at++) most = Math.max(most, Math.abs(whole[at] - kept[at]));
                 if (most > 128) differ.push(n); } return differ; })()`);
         assert.deepEqual(differ, [], `behind ${key}`);
@@ -227,10 +227,37 @@ const small_boxes_are_drawn_over_themselves = async (browser, width) => {
     for (const key of ["0", "l"]) {
         await browser.press(key);
         const differ = await browser.value(`(() => { const { layers } = Page.picture; let differ = 0; Page.step(3000);
-            for (const n of [3700, 4500, 4502, 30001, 9000, 9002, 20000, 3400]) { Page.step(n); const kept = ${BOXES}; layers.boxes.forget(); Page.draw(false);
+            for (const n of [3700, 4500, 4502, 30001, 9000, 9002, 20000, 3400]) { Page.step(n); Page.picture.catchUp(); const kept = ${BOXES}; layers.boxes.forget(); Page.draw(false);
                 const whole = ${BOXES}; for (let at = 0; at < kept.length; at++) if (kept[at] !== whole[at]) differ++; } return differ; })()`);
         assert.equal(differ, 0, `behind ${key} at ${width}`);
     }
+};
+
+// Of what moves nothing is left behind where it was: its canvas is as one that was cleared whole.
+const what_moves_leaves_nothing_behind = async browser => {
+    for (const opens of [() => opened(browser, "examples/storm"), () => openedLarge(browser, 24, 30001)]) {
+        await opens();
+        const differ = await browser.value(`(() => { const { picture } = Page; const differ = []; const { count } = Page.page.run;
+            for (const n of [700, 701, 702, 40, count, count - 1, 9, 300, 650]) { Page.step(n); picture.catchUp(); const kept = ${points("[top]")};
+                picture.pen.noted = [{ x: 0, y: 0, width: picture.width, height: picture.height }]; Page.draw(false); const whole = ${points("[top]")};
+                if (kept.some((part, at) => part !== whole[at])) differ.push(n); } return differ; })()`);
+        assert.deepEqual(differ, []);
+    }
+};
+
+// What takes long of the fabric follows in the next picture, and where steps follow each other for long it does not wait for the last of them.
+const what_takes_long_follows = async browser => {
+    await openedLarge(browser, 24, 30001);
+    await browser.press("l");
+    await browser.value("Page.picture.catchUp()");
+    const late = await browser.value(`(() => { const { picture } = Page; Page.step(24000); const first = picture.layers.isLate;
+        picture.since -= 1000; Page.step(29000); return [first, picture.layers.isLate]; })()`);
+    assert.deepEqual(late, [true, false]);
+    assert(await browser.value("(() => { Page.step(20000); return Page.picture.layers.isLate; })()"));
+    await browser.until("!Page.picture.layers.isLate");
+    const differ = await browser.value(`(() => { const kept = ${points()}; Page.picture.layers.forget(); Page.draw(false); const whole = ${points()};
+        return kept.filter((part, at) => Math.abs(part - whole[at]) > 40).length; })()`);
+    assert.equal(differ, 0); // but for the edges of letters
 };
 
 // Thousands of lines with their loads are drawn by pixels while steps follow each other, and as they are to stay behind the last one.
@@ -239,7 +266,7 @@ const many_lines_are_finished_behind_the_last_step = async browser => {
     await browser.press("l");
     await browser.value("Page.picture.openPods(Page.picture.layout.pods.keys())");
     for (const [entry, zoomed] of [[24000, ""], [30001, ""], [24000, "Page.picture.zoom(3, 100, 200)"], [30001, "Page.picture.fit()"]]) {
-        const wasCoarse = await browser.value(`(() => { ${zoomed}; Page.step(${entry}); Page.toCompare = ${GROUND}; return Page.picture.layers.isCoarse; })()`);
+        const wasCoarse = await browser.value(`(() => { ${zoomed}; Page.step(${entry}); Page.picture.catchUp(); Page.toCompare = ${GROUND}; return Page.picture.layers.isCoarse; })()`);
         assert(wasCoarse, `${entry}`);
         await browser.until("!Page.picture.layers.isCoarse");
         const apart = await browser.value(`(() => { const now = ${GROUND}; let sum = 0; for (let at = 0; at < now.length; at++) sum += Math.abs(now[at] - Page.toCompare[at]);
@@ -255,8 +282,9 @@ const a_step_comes_between_the_parts_of_many_lines = async browser => {
     await browser.press("l");
     await browser.value("Page.picture.openPods(Page.picture.layout.pods.keys())");
     const left = "Page.picture.layers.ground.parts.length";
-    const lefts = await browser.value(`(async () => { Page.step(24000); const { picture } = Page; const lefts = [];
-        while (lefts.length < 4) { picture.finish(); lefts.push(${left}); } Page.step(30001); return [...lefts, ${left}, picture.layers.isCoarse]; })()`);
+    const lefts = await browser.value(`(async () => { const { picture } = Page; Page.step(24000); picture.catchUp(); const lefts = [];
+        while (lefts.length < 4) { picture.finish(); lefts.push(${left}); } Page.step(30001); picture.catchUp();
+        return [...lefts, ${left}, picture.layers.isCoarse]; })()`);
     const [most] = lefts;
     assert(most > 4, `${lefts}`);
     assert.deepEqual(lefts, [most, most - 1, most - 2, most - 3, 0, true]);
@@ -450,7 +478,8 @@ const the_tree_of_bridges_is_told_apart = async (browser, width) => {
 module.exports = {
     the_page_fits_its_screen, fingers_name_and_zoom, nothing_covers_switches_or_names, what_is_found_is_not_taken_for_now,
     a_large_fabric_is_read, keys_reach_everything, the_rule_stands_below_the_sentence, loads_and_the_chart,
-    a_place_is_drawn_anew_as_all_is, small_boxes_are_drawn_over_themselves, many_lines_are_finished_behind_the_last_step,
+    what_moves_leaves_nothing_behind, what_takes_long_follows, a_place_is_drawn_anew_as_all_is, small_boxes_are_drawn_over_themselves,
+    many_lines_are_finished_behind_the_last_step,
     a_step_comes_between_the_parts_of_many_lines, rows_stay_from_step_to_step,
     the_row_of_now_stays_in_the_middle, a_line_of_another_kind_stops_nothing, what_the_fabric_knows, a_second_run_goes_beside,
     the_welcome_page_shows_an_example, a_moment_is_kept, packed_pages_open_at_a_moment, aging_restarts_and_bridges_are_told,

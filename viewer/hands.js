@@ -284,7 +284,7 @@
     };
     new ResizeObserver(resize).observe($("canvas"));
     new ResizeObserver(Second.resized).observe($("other"));
-    window.addEventListener("hashchange", Page.toMoment);
+    window.addEventListener("hashchange", event => Page.toMoment(new URL(event.newURL).hash)); // the page may have written another one since
     window.matchMedia("(prefers-color-scheme: dark)").addEventListener("change", () => {
         picture.themed();
         Second.picture.themed();

@@ -260,9 +260,9 @@ globalThis.Page = (() => {
         }, 250);
     };
 
-    // goes to the moment that the end of the page's address names; answers whether it names one
-    const toMoment = () => {
-        const wanted = page.run ? Moment.read(page.run, window.location.hash) : null;
+    // goes to the moment that the end of an address names, as that of the page; answers whether it names one
+    const toMoment = (end = window.location.hash) => {
+        const wanted = page.run ? Moment.read(page.run, end) : null;
         if (!wanted) return false;
         page.subject = wanted.subject;
         page.story = wanted.subject ? Stories.of(page.run, wanted.subject) : null;

@@ -207,18 +207,23 @@ globalThis.Picture = (() => {
             const ratio = window.devicePixelRatio || 1;
             if (canvas.width !== Math.round(width * ratio)) canvas.width = Math.round(width * ratio);
             if (canvas.height !== Math.round(height * ratio)) canvas.height = Math.round(height * ratio);
-            clearTimeout(this.finishing);
             this.ready(ratio);
             pen.clear(width, height);
             if (!this.scene || width === 0 || height === 0) return;
-            this.layers.bring(this, { width, height, ratio }, this.mayWait);
-            if (this.layers.isLate) this.follow();
-            if (this.layers.isCoarse) this.finishing = setTimeout(() => this.finish(), REST);
+            this.bring();
             this.ready(ratio);
             Traces.draw(this);
         }
 
-        // draws what is behind once the page is on the screen as it is
+        // brings the fabric below it up to now, but for what may wait
+        bring() {
+            clearTimeout(this.finishing);
+            this.layers.bring(this, { width: this.width, height: this.height, ratio: window.devicePixelRatio || 1 }, this.mayWait);
+            if (this.layers.isLate) this.follow();
+            if (this.layers.isCoarse) this.finishing = setTimeout(() => this.finish(), REST);
+        }
+
+        // brings up what is behind once the page is on the screen as it is
         follow() {
             if (this.waits) return;
             this.waits = true;
@@ -228,10 +233,10 @@ globalThis.Picture = (() => {
             }));
         }
 
-        // draws what is behind now
+        // brings up what is behind now
         catchUp() {
             this.mayWait = false;
-            if (this.layers.isLate) this.draw();
+            if (this.scene && this.layers.isLate) this.bring();
         }
 
         // draws what was drawn coarsely as it is to stay, part by part so that a step need not wait for all of it

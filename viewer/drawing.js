@@ -96,7 +96,7 @@ globalThis.Drawing = (() => {
     const switchTexts = (p, s, at, place, ink) => {
         const { pen, colour, state } = p;
         const room = at.width - 4;
-        const names = [s.label, s.label.replace(/^.*\./, ".")];
+        const names = s.level === 2 && pen.hasRoom(s.label, room, true) ? [s.label] : [s.label, s.label.replace(/^.*\./, ".")];
         const loads = [Words.plural(state.crossings[s.number], "frame"), `${state.crossings[s.number]}`];
         const last = p.isLoads ? loads : p.isOfBridge ? [] : placeTexts(place);
         if (at.height >= THREE_ROWS) {

@@ -81,6 +81,11 @@ globalThis.Pen = (() => {
             return sum * size / MEASURED;
         }
 
+        // whether a text has so much room at the smallest size
+        hasRoom(text, width, isBold) {
+            return this.widthOf(text, SMALLEST, isBold) <= width;
+        }
+
         // Writes the first of the texts that fits at nearly this size, else the last one smaller; nothing where that is too small.
         write(texts, x, y, width, size, ink, isBold = false) {
             if (size < SMALLEST) return;

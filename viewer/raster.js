@@ -42,12 +42,14 @@ globalThis.Raster = (() => {
         take(ends) {
             this.count = ends.length / 4;
             this.lines = new Int32Array(PARTS * this.count);
+            this.rows = new Int32Array(2 * this.count); // the first row of each, and the row behind its last one
             for (let n = 0; n < this.count; n++) this.reckon(n, ...ends.subarray(4 * n, 4 * n + 4).map(end => end * this.ratio));
         }
 
         // where the pixels of a line are
         reckon(n, x, y, toX, toY) {
             const { width, height, stride } = this;
+            this.rows[2 * n] = height;
             const isSteep = Math.abs(toY - y) > Math.abs(toX - x);
             const ends = isSteep ? [[y, x], [toY, toX]] : [[x, y], [toX, toY]];
             const [[from, side], [to, toSide]] = ends[0][0] > ends[1][0] ? ends.reverse() : ends;
@@ -57,8 +59,7 @@ globalThis.Raster = (() => {
             const [first, last] = inside(at, slope, Math.max(0, Math.ceil(from - 0.5)), Math.min(most, Math.ceil(to - 0.5)) - 1, mostBeside);
             if (first > last) return; // it has none
             const rows = isSteep ? [first, last] : [at(first), at(last)];
-            this.top = Math.max(0, Math.min(this.top, Math.floor(Math.min(...rows)) - RIM));
-            this.bottom = Math.min(height, Math.max(this.bottom, Math.ceil(Math.max(...rows)) + RIM));
+            this.rows.set([Math.max(0, Math.floor(Math.min(...rows)) - RIM), Math.min(height, Math.ceil(Math.max(...rows)) + RIM)], 2 * n);
             const corner = RIM * stride + RIM;
             this.lines.set([corner + first * next, last - first + 1, next, Math.floor(at(first) * UNIT), Math.round(slope * UNIT), beside], PARTS * n);
         }
@@ -67,9 +68,20 @@ globalThis.Raster = (() => {
         // is, or null for none; fine or faint lines have a colour nearer to the paper's.
         draw(levels, inks, paper) {
             this.codes.fill(0);
+            this.reach(levels);
             const colours = [partsOf(paper)];
             for (const ink of inks) if (ink) colours[ink.level] = this.level(levels, ink, colours[0]);
             this.mix(colours);
+        }
+
+        // takes up the rows of lines that have a level
+        reach(levels) {
+            const { rows } = this;
+            for (let n = 0; n < this.count; n++) {
+                if (levels[n] === 0) continue;
+                if (rows[2 * n] < this.top) this.top = rows[2 * n];
+                if (rows[2 * n + 1] > this.bottom) this.bottom = rows[2 * n + 1];
+            }
         }
 
         // draws the lines of a level, and answers their colour
@@ -112,9 +124,10 @@ globalThis.Raster = (() => {
             }
         }
 
-        // what it shows now lies below its lines from now on
+        // what it shows now lies below its lines from now on, of which it has drawn none
         keep() {
             this.former.set(this.pixels);
+            [this.top, this.bottom] = [this.height, 0];
         }
 
         // puts it on a canvas that showed it last

@@ -194,11 +194,12 @@ globalThis.Picture = (() => {
         // begins to draw with its pen, on paper or, where it is clear, on nothing
         prepare(width, height, ratio, isClear = false) {
             const { c: context } = this.pen;
+            const [across, down] = [width, height].map(part => Math.ceil(part * ratio) / ratio); // with the last point of the screen, which may stand out
             this.ready(ratio);
-            if (isClear) context.clearRect(0, 0, width, height);
+            if (isClear) context.clearRect(0, 0, across, down);
             else {
                 context.fillStyle = this.colour.paper;
-                context.fillRect(0, 0, width, height);
+                context.fillRect(0, 0, across, down);
             }
         }
 

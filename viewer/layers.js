@@ -4,18 +4,17 @@
 // Where a step changes what is seen at a few places, these are drawn anew alone, so that it costs little in a large fabric too. Where it
 // changes many, they may wait until what moves is on the screen; thousands of lines are drawn coarsely, until no other step comes for a while.
 globalThis.Layers = (() => {
-    const MOST_OF_GROUND = 40; // of more places than this all of the ground is drawn anew
-    const MANY = 40; // more places than this take milliseconds
+    const MANY = 40; // more places than this take milliseconds; of lines all are drawn anew then
     const MOST_OF_SHEET = 16; // of more places than this all of the sheet is put together anew
     const ALL = null;
 
     class Layer {
         // `below` is the layer that it has a copy of below what it draws; a layer without one is clear where nothing is drawn.
-        constructor(drawer, most, below, isClear) {
+        constructor(drawer, below, isClear) {
             this.canvas = document.createElement("canvas");
             this.context = this.canvas.getContext("2d", { alpha: isClear });
             this.pen = Pen.of(this.context);
-            Object.assign(this, { drawer, most, below, isClear, view: "", key: "", look: null, isCoarse: false, isLate: false });
+            Object.assign(this, { drawer, below, isClear, view: "", key: "", look: null, isCoarse: false, isLate: false });
             Object.assign(this, { raster: null, rasterKey: "" }); // by what it is drawn coarsely, and of what
             Object.assign(this, { draft: null, parts: [] }); // on which it is finished, and what is to be drawn there still
         }
@@ -33,7 +32,7 @@ globalThis.Layers = (() => {
             this.isLate = false;
             if (view === this.view && key === this.key) return [];
             const look = drawer.lookOf(p);
-            const places = view === this.view ? drawer.changes(p, before, look, this.most) : ALL;
+            const places = view === this.view ? drawer.changes(p, before, look, MANY) : ALL;
             if (mayWait && view === this.view && this.takesLong(places)) {
                 this.isLate = true;
                 return [];
@@ -131,9 +130,9 @@ globalThis.Layers = (() => {
     // or not.
     class Layers {
         constructor(canvas) {
-            this.bed = new Layer(Ground.bed, 0, null, false);
-            this.ground = new Layer(Ground, MOST_OF_GROUND, this.bed, false);
-            this.boxes = new Layer(Drawing, 0, null, true);
+            this.bed = new Layer(Ground.bed, null, false);
+            this.ground = new Layer(Ground, this.bed, false);
+            this.boxes = new Layer(Drawing, null, true);
             this.sheet = document.createElement("canvas");
             this.sheet.className = "layer";
             this.sheet.setAttribute("aria-hidden", "true");

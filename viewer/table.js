@@ -15,6 +15,7 @@ globalThis.Table = {
 | "dropped ID CAUSE" | "ended" and others: see the causes below | pl_world/SwitchActs |
 | "granted PMAC HOST SWITCH PORT" | "act_done", by "grants_next" | pl_world/SwitchActs, pl_switch_rule/Granting |
 | "registered PMAC NUMBER" | "manager_act_done", by "learning" | pl_world/OtherActs, pl_manager_rule/ManagerRule |
+| "freed PMAC" | "is_live" of that address until then; no switch writes it yet | pl_journal/Places |
 | "placed SWITCH LEVEL POSITION POD" | "place_noted" | pl_world/SwitchActs |
 | "linkdown A B", "linkup A B" | "link_failed", "link_repaired" | pl_world/LinksAndMoves |
 | "moved HOST SWITCH PORT" | "host_moved" | pl_world/LinksAndMoves |

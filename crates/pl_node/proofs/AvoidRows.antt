@@ -1,22 +1,28 @@
 -- What an avoid list that is kept in rows has, and how it gains an entry.
-use Rattle.std.proofs.Common.{Result, Ok, Err, OnOk, IsTrue, take, ◌≡◌, ℕ, zero, suc, ◌+◌, ◌*◌, ◌/◌, ◌%◌, ◌<◌, ◌≤◌, ◌≢◌, ◌==◌, ◌&&◌, ◌||◌, ◌↔◌, not, nat_lt, Bool, true, false, cond, List, [], ◌∷◌, ◌++◌, map, length, get_or, set, Option, Some, None, refl, sym, ap, ◌∙◌, subst, inl, inr, arith}
-use Rattle.std.specs.Prelude.{fold}
+use Rattle.std.proofs.Common.{Result, Ok, Err, OnOk, IsTrue, take, ◌≡◌, ℕ, zero, suc, ◌+◌, ◌-◌, ◌*◌, ◌/◌, ◌%◌, ◌^◌, ◌<◌, ◌≤◌, min, ◌≢◌, ◌==◌, ◌&&◌, ◌||◌, ◌↔◌, not, nat_lt, Bool, true, false, cond, List, [], ◌∷◌, ◌++◌, map, length, get_or, set, Option, Some, None, refl, sym, ap, ◌∙◌, subst, inl, inr, arith}
+use Rattle.std.specs.Prelude.{fold, bit_and, slice_index}
+use Rattle.std.specs.Int.{bit_at, bit_not, w64}
+use Rattle.std.specs.Bool.{Decides}
+use Rattle.std.specs.Cmp.Lexicographic.{pointwise}
 use Rattle.std.specs.List.{filter, flat_map, list_any, range_with_len}
 use Rattle.std.specs.List.Sorted.{IsStrictlySortedBy}
 use Rattle.std.specs.Ordering.{is_eq}
 use Rattle.std.specs.Cmp.{Equal-is}
 use Rattle.std.specs.BTreeSet.{insert_key}
 use Rattle.std.proofs.lemmas.Bool.{and_from, and_parts, cases_eq, cases_lt, eqb-true, eq-eqb, ne_eqb, false≢true, false_from_ne_true, lt-ltb, le-ltb, ltb-true, or_left, or_right, or_cases}
+use Rattle.std.proofs.lemmas.Bool.Decides.{Decides-and, Decides-eqb}
 use Rattle.std.proofs.lemmas.Cmp.{tied_itself}
 use Rattle.std.proofs.lemmas.List.Folds.{list_any-append, list_any_at, list_any_more}
 use Rattle.std.proofs.lemmas.Nat.{div-mul-add, mod-mul-add}
-use Rattle.pl_bits.specs.Bits.{has_bit}
+use Rattle.std.proofs.lemmas.Nat.Bits.{bit_at-lt, bit_at_and, bit_at_not}
+use Rattle.std.proofs.lemmas.Slice.Eq.{slice_eq-Decides}
+use Rattle.pl_bits.specs.Bits.{has_bit, is_set}
 use Rattle.pl_bits.proofs.Exports.{bit_set, set_elsewhere, set_here}
 use Rattle.pl_frame.specs.declared.address.SwitchId.{SwitchId}
 use Rattle.pl_layouts.specs.Equality.{same_switch}
 use Rattle.pl_node.specs.ManagerViews.{in_order}
-use Rattle.pl_node.specs.AvoidLists.{avoided_cmp}
-use Rattle.pl_node.specs.AvoidRows.{AreListed, Gains, entries_of, entry_of, is_listed, listed_in, number_of, row_has, rows_have}
+use Rattle.pl_node.specs.AvoidLists.{avoided_cmp, is_for}
+use Rattle.pl_node.specs.AvoidRows.{AreListed, AreSameBeyond, Gains, entries_of, entry_of, is_listed, listed_in, number_of, row_has, rows_have, some_has}
 use Rattle.pl_node.specs.declared.avoid_row.AvoidRow.{AvoidRow}
 use Rattle.pl_node.proofs.Among.{among_filter, among_filtered, among_in_order, among_insert, among_inserted, among_kept, among_map, among_mapped, among_ordered, among_range, any_among, IsAmong, member_passes, rising_in_order, rising_inserted}
 use Rattle.pl_node.proofs.AvoidOrder.{avoided_exact, avoided_total}
@@ -560,3 +566,140 @@ gains_row rows others row =
         by : (a b c : Bool) → ((a || b) || c) ≡ (a || (b || c))
         by true b c = refl
         by false b c = refl
+
+-- ---- a row without the bits of another
+pub words_left : (left words others : List ℕ) →
+    ((i bit : ℕ) → i < 5 → bit < 64 → is_set (slice_index left i) bit ≡ (is_set (slice_index words i) bit && not (is_set (slice_index others i) bit))) →
+    (n : ℕ) → n < 288 → has_bit left n ≡ (has_bit words n && not (has_bit others n))
+words_left left words others each n small = each (n / 64) (n % 64) (omega arith) (omega arith)
+
+pub bits_left : (word other bit : ℕ) → other < 2 ^ 64 → bit < 64 → is_set (bit_and word (bit_not w64 other)) bit ≡ (is_set word bit && not (is_set other bit))
+bits_left word other bit fits low =
+    ap (λ b. b == 1) (bit_at_and word (bit_not w64 other) bit ∙ ap (min (bit_at word bit)) (bit_at_not w64 other bit fits low))
+    ∙ by (bit_at word bit) (bit_at other bit) (bit_at-lt word bit) (bit_at-lt other bit)
+  where
+    by : (a b : ℕ) → a < 2 → b < 2 → (min a (1 - b) == 1) ≡ ((a == 1) && not (b == 1))
+    by zero zero p q = refl
+    by zero (suc zero) p q = refl
+    by (suc zero) zero p q = refl
+    by (suc zero) (suc zero) p q = refl
+    by (suc (suc a)) b p q = absurd (omega (arith, p))
+    by zero (suc (suc b)) p q = absurd (omega (arith, q))
+    by (suc zero) (suc (suc b)) p q = absurd (omega (arith, q))
+
+pub same_beyond : (rows : List AvoidRow) (i : ℕ) (one row less : AvoidRow) (others : List Avoided) → i < length rows → one ≡ get_or rows i one →
+    one.neighbour ≡ row.neighbour → less.neighbour ≡ row.neighbour →
+    ((n : ℕ) → n < 288 → has_bit less.words n ≡ (has_bit row.words n && not (has_bit one.words n))) → AreSameBeyond less row (listed_in rows others)
+same_beyond rows i one row less others within is of left bits x =
+    ap (λ b. b && not there) (row_lists x less) ∙ by (number_of x.1 x.2) refl ∙ sym (ap (λ b. b && not there) (row_lists x row))
+  where
+    there : Bool
+    there = is_listed x (listed_in rows others)
+
+    has : rows_have x.0 (number_of x.1 x.2) (one ∷ []) ≡ true → there ≡ true
+    has h =
+        lists_by x rows others
+        ∙ or_left (any_row rows x) (is_listed x others)
+        (list_any_at (λ r. is_listed x (entries_of r)) rows i one within
+        (ap (λ r. is_listed x (entries_of r)) (sym is) ∙ row_lists x one ∙ h))
+
+    table : (s a b t : Bool) → (((s && b) || false) ≡ true → t ≡ true) → (((s && (a && not b)) || false) && not t) ≡ (((s && a) || false) && not t)
+    table false a b t h = refl
+    table true false b t h = refl
+    table true true false t h = refl
+    table true true true t h = sym (ap not (h refl))
+
+    by : (o : Option ℕ) → number_of x.1 x.2 ≡ o → (rows_have x.0 o (less ∷ []) && not there) ≡ (rows_have x.0 o (row ∷ []) && not there)
+    by None e = refl
+    by (Some n) e =
+        let small : n < 288 = (of_number x.1 x.2 n e).2 in
+        ap (λ b. (b || false) && not there) ((λ j. same_switch (left j) x.0 && bits n small j))
+        ∙ table (same_switch row.neighbour x.0) (has_bit row.words n) (has_bit one.words n) there (λ h. has
+        (ap (λ o. rows_have x.0 o (one ∷ [])) e ∙ ap (λ (s : SwitchId). (same_switch s x.0 && has_bit one.words n) || false) of ∙ h))
+
+-- what is gained by the bits beyond
+pub gains_beyond : {E : Type 0} (row less : AvoidRow) (old new other : List Avoided) (result : Result (Unit {0}) E) → AreSameBeyond less row other →
+    OnOk result (Gains old new other (λ x. is_listed x (entries_of less))) → OnOk result (Gains old new other (λ x. is_listed x (entries_of row)))
+gains_beyond row less old new other (Err e) same gains = gains
+gains_beyond row less old new other (Ok d) same gains = λ x. gains x ∙ ap (λ b. is_listed x old || b) (same x)
+
+pub within_beyond : (row less : AvoidRow) (other : List Avoided) (b : Bool) → AreSameBeyond less row other →
+    (IsTrue b ↔ AreListed (λ x. is_listed x (entries_of less)) other) → IsTrue b ↔ AreListed (λ x. is_listed x (entries_of row)) other
+within_beyond row less other b same tells = (
+  λ h x is. by (is_listed x (entries_of less)) (is_listed x (entries_of row)) (is_listed x other) (same x) (tells.0 h x) is,
+  λ all. tells.1 (λ x is. by (is_listed x (entries_of row)) (is_listed x (entries_of less)) (is_listed x other) (sym (same x)) (all x) is),
+)
+  where
+    by : (a b c : Bool) → (a && not c) ≡ (b && not c) → (a ≡ true → c ≡ true) → b ≡ true → c ≡ true
+    by a b true e f is = refl
+    by true b false e f is = f refl
+    by false true false e f is = e
+    by false false false e f is = is
+
+-- `==` at rows tells just those apart that differ
+pub row_eq : (a b : AvoidRow) → Decides (a.neighbour.0 == b.neighbour.0 && pointwise (λ x y. x == y) a.words b.words) (a ≡ b)
+row_eq a b =
+    let both =
+    Decides-and (a.neighbour.0 == b.neighbour.0) (pointwise (λ x y. x == y) a.words b.words) (Decides-eqb a.neighbour.0 b.neighbour.0)
+    (slice_eq-Decides Decides-eqb a.words b.words (pointwise (λ x y. x == y) a.words b.words) refl) in (
+      λ h.
+          let is = both.0 h in
+          (λ i. record { neighbour = record { 0 = is.0 i }; words = is.1 i }),
+      λ e. both.1 (ap (λ (r : AvoidRow). r.neighbour.0) e, ap (λ (r : AvoidRow). r.words) e),
+    )
+
+-- ---- whether some entry is for an address
+pub address_listed : (pod position : ℕ) (rows : List AvoidRow) (others : List Avoided) →
+    (some_has (number_of pod position) rows || list_any (is_for pod position) others) ≡ list_any (is_for pod position) (listed_in rows others)
+address_listed pod position rows others =
+    same_test (some_has (number_of pod position) rows || list_any (is_for pod position) others) (list_any (is_for pod position) all) there back
+  where
+    all : List Avoided
+    all = listed_in rows others
+
+    kept : (x : Avoided) → is_listed x all ≡ true → is_for pod position x ≡ true → list_any (is_for pod position) all ≡ true
+    kept x h passes = any_among (is_for pod position) x all (listed_among x all h) passes
+
+    itself : (u : SwitchId) → is_for pod position (u, pod, position) ≡ true
+    itself u = and_from (pod == pod) (position == position) (eq-eqb pod pod refl) (eq-eqb position position refl)
+
+    by_row : (o : Option ℕ) → number_of pod position ≡ o → some_has o rows ≡ true → list_any (is_for pod position) all ≡ true
+    by_row None e h = absurd (false≢true h)
+    by_row (Some n) e h =
+        let some = member_passes (λ (r : AvoidRow). has_bit r.words n) rows h in
+        let u = some.0.neighbour in
+        let has : rows_have u (number_of pod position) rows ≡ true =
+        ap (λ o. rows_have u o rows) e
+        ∙ any_among (row_has u n) some.0 rows some.1 (and_from (same_switch u u) (has_bit some.0.words n) (eq-eqb u.0 u.0 refl) some.2) in
+        kept (u, pod, position)
+        (lists (u, pod, position) rows others ∙ or_left (rows_have u (number_of pod position) rows) (is_listed (u, pod, position) others) has) (itself u)
+
+    there : (some_has (number_of pod position) rows || list_any (is_for pod position) others) ≡ true → list_any (is_for pod position) all ≡ true
+    there h = elim (or_cases (some_has (number_of pod position) rows) (list_any (is_for pod position) others) h) [
+      | inl a ↦ by_row (number_of pod position) refl a
+      | inr b ↦
+          let some = member_passes (is_for pod position) others b in
+          let x = some.0 in
+          kept x (lists x rows others ∙ or_right (rows_have x.0 (number_of x.1 x.2) rows) (is_listed x others) (among_listed x others some.1)) some.2
+    ]
+
+    of_row : (u : SwitchId) (o : Option ℕ) → rows_have u o rows ≡ true → some_has o rows ≡ true
+    of_row u None h = h
+    of_row u (Some n) h =
+        let some = member_passes (row_has u n) rows h in
+        any_among (λ (r : AvoidRow). has_bit r.words n) some.0 rows some.1 (and_parts (same_switch some.0.neighbour u) (has_bit some.0.words n) some.2).1
+
+    back : list_any (is_for pod position) all ≡ true → (some_has (number_of pod position) rows || list_any (is_for pod position) others) ≡ true
+    back h =
+        let some = member_passes (is_for pod position) all h in
+        let x = some.0 in
+        let two = and_parts (x.1 == pod) (x.2 == position) some.2 in
+        let same : number_of pod position ≡ number_of x.1 x.2 = (λ i. number_of (sym (eqb-true x.1 pod two.0) i) (sym (eqb-true x.2 position two.1) i)) in
+        elim (or_cases (rows_have x.0 (number_of x.1 x.2) rows) (is_listed x others) (sym (lists x rows others) ∙ among_listed x all some.1)) [
+          | inl a ↦
+              or_left (some_has (number_of pod position) rows) (list_any (is_for pod position) others)
+              (of_row x.0 (number_of pod position) (ap (λ o. rows_have x.0 o rows) same ∙ a))
+          | inr b ↦
+              or_right (some_has (number_of pod position) rows) (list_any (is_for pod position) others)
+              (any_among (is_for pod position) x others (listed_among x others b) some.2)
+        ]

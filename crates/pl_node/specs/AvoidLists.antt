@@ -63,3 +63,7 @@ avoided_at told s u = map (λ e. (u, e.pod, e.position)) (filter (is_cut told s 
 -- all that a switch avoids, in rising order
 unfoldable pub avoid_list : Told → SwitchId → List (SwitchId × ℕ × ℕ)
 avoid_list told s = in_order avoided_cmp (flat_map (avoided_at told s) (filter (is_above told s) (neighbours told s)))
+
+-- whether an entry is for this pod and position
+abbrev pub is_for : ℕ → ℕ → SwitchId × ℕ × ℕ → Bool
+is_for pod position x = x.1 == pod && x.2 == position

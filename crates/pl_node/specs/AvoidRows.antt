@@ -36,6 +36,11 @@ abbrev pub rows_have : SwitchId → Option ℕ → List AvoidRow → Bool
 rows_have neighbour None rows = false
 rows_have neighbour (Some number) rows = list_any (row_has neighbour number) rows
 
+-- whether some row has this bit
+abbrev pub some_has : Option ℕ → List AvoidRow → Bool
+some_has None rows = false
+some_has (Some number) rows = list_any (λ row. has_bit row.words number) rows
+
 -- a list gains the items that pass, unless another list has them
 abbrev pub Gains : List (SwitchId × ℕ × ℕ) → List (SwitchId × ℕ × ℕ) → List (SwitchId × ℕ × ℕ) → (SwitchId × ℕ × ℕ → Bool) → Type 0
 Gains old new other test = (x : SwitchId × ℕ × ℕ) → is_listed x new ≡ (is_listed x old || (test x && not (is_listed x other)))
@@ -43,3 +48,8 @@ Gains old new other test = (x : SwitchId × ℕ × ℕ) → is_listed x new ≡ 
 -- whatever passes is listed
 abbrev pub AreListed : (SwitchId × ℕ × ℕ → Bool) → List (SwitchId × ℕ × ℕ) → Type 0
 AreListed test list = (x : SwitchId × ℕ × ℕ) → test x ≡ true → is_listed x list ≡ true
+
+-- two rows have the same apart from what a list has
+abbrev pub AreSameBeyond : AvoidRow → AvoidRow → List (SwitchId × ℕ × ℕ) → Type 0
+AreSameBeyond a b list =
+    (x : SwitchId × ℕ × ℕ) → (is_listed x (entries_of a) && not (is_listed x list)) ≡ (is_listed x (entries_of b) && not (is_listed x list))

@@ -1,10 +1,10 @@
-ghost use Rattle.std.specs.Prelude.{◌≡◌, ◌==◌, ◌&&◌, ◌||◌, ◌<◌, ℕ, IfSome, IsTrue, OnErr, OnOk, false, length, slice_index_or};
+ghost use Rattle.std.specs.Prelude.{◌≡◌, ◌==◌, ◌&&◌, ◌||◌, ◌<◌, ℕ, IfSome, IsTrue, OnErr, OnOk, false, true, length, not, slice_index, slice_index_or};
 ghost use Rattle.std.specs.List.{list_any};
-ghost use Rattle.pl_bits.specs.Bits.{has_bit};
+ghost use Rattle.pl_bits.specs.Bits.{has_bit, is_set};
 ghost use Rattle.pl_frame.specs.declared.address.SwitchId.{SwitchId};
 ghost use Rattle.pl_layouts.specs.Equality.{same_switch};
 ghost use Rattle.pl_node.specs.declared.avoid_row.AvoidRow.{AvoidRow};
-ghost use Rattle.pl_node.specs.AvoidRows.{entry_of, number_of, row_has, rows_have};
+ghost use Rattle.pl_node.specs.AvoidRows.{entry_of, number_of, row_has, rows_have, some_has};
 
 use crate::Memory;
 use pl_bits::bit_of;
@@ -51,6 +51,29 @@ impl AvoidRow {
         bit_of(&self.words, number)
     }
 
+    /// A bit that is set, if one is found.
+    pub(crate) fn first(&self) -> Option<usize>
+        ensures { IfSome result (λ n. (n < 288) × (has_bit self.now.words n ≡ true)) }
+    {
+        for word in 0..5 {
+            if let Some(number) = self.first_in(word) {
+                return Some(number);
+            }
+        }
+        None
+    }
+
+    fn first_in(&self, word: usize) -> Option<usize>
+        requires { word < 5 }
+        ensures { IfSome result (λ n. (n < 288) × (has_bit self.now.words n ≡ true)) }
+    {
+        let number = word * 64 + self.words[word].trailing_zeros() as usize;
+        if number < NUMBERS && self.has(number) {
+            return Some(number);
+        }
+        None
+    }
+
     /// What a bit stands for.
     pub(crate) fn entry(&self, number: usize) -> (SwitchId, u16, u8)
         requires { number < 288 }
@@ -72,6 +95,34 @@ impl AvoidRow {
             words,
         }
     }
+
+    /// The row without the bits of another.
+    pub(crate) fn without(&self, other: &AvoidRow) -> AvoidRow
+        ensures neighbour { result.neighbour ≡ self.now.neighbour }
+        ensures bits { (n : ℕ) → n < 288 → has_bit result.words n ≡ (has_bit self.now.words n && not (has_bit other.now.words n)) }
+    {
+        AvoidRow {
+            neighbour: self.neighbour,
+            words: words_without(&self.words, &other.words),
+        }
+    }
+}
+
+fn words_without(words: &[u64; 5], others: &[u64; 5]) -> [u64; 5]
+    ensures { (i bit : ℕ) → i < 5 → bit < 64 → is_set (slice_index result i) bit
+        ≡ (is_set (slice_index words.now i) bit && not (is_set (slice_index others.now i) bit)) }
+{
+    let mut left = *words;
+    for i in 0..5 {
+        left[i] = bits_without(words[i], others[i]);
+    }
+    left
+}
+
+fn bits_without(word: u64, other: u64) -> u64
+    ensures { (bit : ℕ) → bit < 64 → is_set result bit ≡ (is_set word bit && not (is_set other bit)) }
+{
+    word & !other
 }
 
 /// Sets a bit in the row of a neighbour.
@@ -147,4 +198,27 @@ fn row_has(row: &AvoidRow, neighbour: SwitchId, number: usize) -> bool
     ensures { result ≡ row_has neighbour number row.now }
 {
     row.neighbour.0 == neighbour.0 && row.has(number)
+}
+
+/// Whether some row has a bit, if there is one.
+pub(crate) fn some_has(rows: &[AvoidRow], number: Option<usize>) -> bool
+    requires { IfSome number (λ n. n < 288) }
+    ensures { result ≡ some_has number rows.now }
+{
+    match number {
+        Some(number) => some_has_bit(rows, number),
+        None => false,
+    }
+}
+
+fn some_has_bit(rows: &[AvoidRow], number: usize) -> bool
+    requires { number < 288 }
+    ensures { result ≡ list_any (λ row. has_bit row.words number) rows.now }
+{
+    for row in rows {
+        if row.has(number) {
+            return true;
+        }
+    }
+    false
 }

@@ -5,4 +5,5 @@ pub mod AvoidRows
 pub mod Booted
 pub mod Ports
 pub mod Addresses
+pub mod AddressUses
 pub mod Exports

@@ -1,12 +1,12 @@
 -- How a fabric manager may act, and what any rule of it is to keep.
 use Rattle.std.specs.Prelude.{◌≡◌, ◌≤◌, ℕ, ◌+◌, ◌||◌, Bool, true, List, ◌++◌, length, map, Option, Some, None, IsTrue}
-use Rattle.std.specs.List.{filter_map, list_all}
+use Rattle.std.specs.List.{AllByRecursion, filter_map, list_all}
 use Rattle.pl_frame.specs.declared.address.SwitchId.{SwitchId}
 use Rattle.pl_pmac.specs.declared.pmac.Pmac.{Pmac}
 use Rattle.pl_node.specs.declared.acts.ManagerAct.{ManagerAct}
 use Rattle.pl_node.specs.declared.acts.ManagerAct.TheVariants.{Say, Number}
 use Rattle.pl_node.specs.declared.messages.ToManager.{ToManager}
-use Rattle.pl_node.specs.ManagerViews.{ManagerView, Registration, is_heard, registry}
+use Rattle.pl_node.specs.ManagerViews.{Learnt, ManagerView, Registration, is_heard, registry}
 use Rattle.pl_layouts.specs.Equality.{same_switch}
 
 -- how a fabric manager may act: its view, who speaks and what, its view then, and its acts
@@ -31,7 +31,13 @@ numbered_by (Number pmac n) = Some (pmac, n)
 pub record IsGrown (before : ManagerView) (s : SwitchId) (after : ManagerView) : Type 0 where
   pub k : after.k ≡ before.k
   pub heard : (t : SwitchId) → IsTrue (is_heard after t) → IsTrue (same_switch s t || is_heard before t)
-  pub addresses : length (registry after.learnt) ≤ length (registry before.learnt) + 1
+  pub addresses : after.learnt.count ≤ before.learnt.count + 1
+
+-- The addresses that are registered then are those of before and the ones that were given numbers; each of these has the next number.
+pub record AreNumbered (before after : Learnt) (given : List (Pmac × ℕ)) : Type 0 where
+  pub registered : map with_number (registry after) ≡ given ++ map with_number (registry before)
+  pub count : after.count ≡ length given + before.count
+  pub next : AllByRecursion (λ (g : Pmac × ℕ). g.1 ≡ after.count) given
 
 -- What any rule of a fabric manager is to keep: it speaks to switches that it heard, it says the number of just the addresses that it
 -- learns, and what it knows grows with what it hears.
@@ -40,6 +46,6 @@ pub record AnswersDuly (rule : ManagerRule) : Type 0 where
       rule before s says after acts → IsTrue (list_all (is_for_heard before s) acts)
   pub numbered : (before : ManagerView) (s : SwitchId) (says : ToManager) (after : ManagerView) (acts : List ManagerAct) →
       rule before s says after acts →
-      map with_number (registry after.learnt) ≡ filter_map numbered_by acts ++ map with_number (registry before.learnt)
+      AreNumbered before.learnt after.learnt (filter_map numbered_by acts)
   pub grows : (before : ManagerView) (s : SwitchId) (says : ToManager) (after : ManagerView) (acts : List ManagerAct) →
       rule before s says after acts → IsGrown before s after

@@ -8,7 +8,7 @@ use Rattle.pl_frame.specs.declared.address.SwitchId.{SwitchId}
 use Rattle.pl_pmac.specs.declared.pmac.Pmac.{Pmac}
 use Rattle.pl_layouts.specs.Memberships.{flood}
 use Rattle.pl_node.specs.ManagerDuties.{with_number}
-use Rattle.pl_node.specs.ManagerViews.{Learnt, ManagerView, Members, id_cmp, in_order, newest, registry, speakers}
+use Rattle.pl_node.specs.ManagerViews.{Learnt, ManagerView, Members, id_cmp, in_order, newest, speakers}
 
 -- the switches that were heard, by rising id
 abbrev pub heard : ManagerView → List SwitchId
@@ -21,7 +21,7 @@ switch_count k = 5 * k * k / 4
 -- With this switch no more were heard than a tree has, and there is a number for one more address.
 pub record CanHear (view : ManagerView) (s : SwitchId) : Type 0 where
   pub switches : length (insert_key id_cmp (heard view) s) ≤ switch_count view.k
-  pub addresses : length (registry view.learnt) < 4294967295
+  pub addresses : view.learnt.count < 4294967295
 
 -- the newest address of an actual address, and its registration number
 abbrev pub newest_and_number : Learnt → Mac → Option (Pmac × ℕ)

@@ -1,6 +1,6 @@
 -- What the fabric manager knows: what each switch told last of each thing, who asked for the number of a pod, and the addresses that it
 -- learnt. A later word takes the place of an earlier one on the same thing, and all answers are functions of what is known then.
-use Rattle.std.specs.Prelude.{ℕ, ◌+◌, ◌==◌, ◌&&◌, Bool, false, if◌then◌else◌, List, [], ◌∷◌, ◌++◌, length, map, Option, Some, None, unwrap_or}
+use Rattle.std.specs.Prelude.{ℕ, ◌==◌, ◌&&◌, Bool, false, if◌then◌else◌, List, [], ◌∷◌, ◌++◌, length, map, Option, Some, None, is_none, unwrap_or}
 use Rattle.std.specs.List.{filter, filter_map, find, list_any}
 use Rattle.std.specs.Map as table
 use Rattle.std.specs.Option.{option_and_then, option_map}
@@ -28,19 +28,32 @@ pub record Told : Type 0 where
 abbrev pub Members : Type 0
 Members = List ((SwitchId × ℕ) × Bool)
 
--- a pseudo address, the actual address of its host, the IPv4 address that was told last with it, and the switch that told it first
+-- the newer address to which an address leads, and the number of that one
+pub record Recall : Type 0 where
+  pub new : Pmac
+  pub number : ℕ
+
+-- a pseudo address, the actual address of its host, and the switch that told it first
 pub record LearntAddress : Type 0 where
   pub switch : SwitchId
   pub pmac : Pmac
   pub amac : Mac
+  -- the IPv4 address that was told last with it
   pub ip : Option Ip4
+  pub number : ℕ
+  -- where it leads since its switch was sent a newer address of its host
+  pub recall : Option Recall
+  -- it was told to have aged since then
+  pub aged : Bool
 
 -- what was learnt of addresses
 pub record Learnt : Type 0 where
   -- each once, the newest first
   pub addresses : List LearntAddress
-  -- the pseudo address with which an IPv4 address was told last, by rising IPv4 address
-  pub owners : List (Ip4 × Pmac)
+  -- the actual address of the host with whose pseudo address an IPv4 address was told last, by rising IPv4 address
+  pub owners : List (Ip4 × Mac)
+  -- how many addresses were learnt since boot
+  pub count : ℕ
 
 -- all that the manager knows
 pub record ManagerView : Type 0 where
@@ -59,7 +72,7 @@ booted_manager k = record {
   told = record { places = []; links = [] };
   members = [];
   askers = [];
-  learnt = record { addresses = []; owners = [] };
+  learnt = record { addresses = []; owners = []; count = 0 };
 }
 
 -- the switches that told a place or a link, each as often as something is known of it
@@ -177,36 +190,32 @@ pub record Registration : Type 0 where
   pub number : ℕ
   pub switch : SwitchId
 
--- the addresses are numbered 1, 2, 3 and so on in the order in which they were first learnt; the newest stands first
-abbrev pub numbered : List LearntAddress → List Registration
-numbered [] = []
-numbered (a ∷ addresses) =
-    if list_any (λ r. same_pmac r.pmac a.pmac) (numbered addresses) then numbered addresses
-    else record { pmac = a.pmac; amac = a.amac; number = length (numbered addresses) + 1; switch = a.switch } ∷ numbered addresses
+abbrev pub registered_as : LearntAddress → Registration
+registered_as a = record { pmac = a.pmac; amac = a.amac; number = a.number; switch = a.switch }
 
 -- the registrations, the newest first
 abbrev pub registry : Learnt → List Registration
-registry learnt = numbered learnt.addresses
+registry learnt = map registered_as learnt.addresses
 
 -- what is registered of a pseudo address
 abbrev pub registration : Learnt → Pmac → Option Registration
 registration learnt x = find (λ r. same_pmac r.pmac x) (registry learnt)
 
+-- an address of this host that leads to no newer one
+abbrev pub is_newest_of : Mac → LearntAddress → Bool
+is_newest_of amac a = same_mac a.amac amac && is_none a.recall
+
 -- the newest address of an actual address
 abbrev pub newest : Learnt → Mac → Option Registration
-newest learnt a = find (λ r. same_mac r.amac a) (registry learnt)
+newest learnt amac = option_map registered_as (find (is_newest_of amac) learnt.addresses)
 
 -- the IPv4 address that was told last with a pseudo address
 abbrev pub ip_of : Learnt → Pmac → Option Ip4
 ip_of learnt x = option_and_then (λ a. a.ip) (find (λ a. same_pmac a.pmac x) learnt.addresses)
 
--- the pseudo address with which an IPv4 address was told last
-abbrev pub told_with : Learnt → Ip4 → Option Pmac
-told_with learnt ip = value_at ip_cmp learnt.owners ip
-
--- the owner of an IPv4 address is the actual address of that one
+-- the owner of an IPv4 address: the actual address of the host with whose pseudo address it was told last
 abbrev pub owner : Learnt → Ip4 → Option Mac
-owner learnt ip = option_map (λ r. r.amac) (option_and_then (registration learnt) (told_with learnt ip))
+owner learnt ip = value_at ip_cmp learnt.owners ip
 
 -- whom a question for an IPv4 address finds: the newest address of its owner
 abbrev pub lookup : Learnt → Ip4 → Option Pmac

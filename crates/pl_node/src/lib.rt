@@ -6,6 +6,8 @@
 #![tactic(auto)]
 
 pub use acts::{Act, HostAct, ManagerAct};
+pub use address_use::AddressUse;
+pub use avoid_bits::AvoidBits;
 pub use avoid_list::AvoidList;
 pub use avoid_row::AvoidRow;
 pub use host_logic::HostLogic;
@@ -25,6 +27,8 @@ pub use switch_records::{Grant, Hold, Member, Source};
 pub use trap::Trap;
 
 mod acts;
+mod address_use;
+mod avoid_bits;
 mod avoid_list;
 mod avoid_row;
 mod host_logic;

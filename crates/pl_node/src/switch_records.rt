@@ -1,4 +1,4 @@
-use crate::Trap;
+use crate::AddressUse;
 use pl_frame::{Ip4, Mac, SwitchId};
 
 /// An aggregation switch holds a position for an edge switch, and has heard that it is fixed there, or
@@ -9,14 +9,13 @@ pub struct Hold {
     pub fixed: bool,
 }
 
-/// An address that an edge switch granted: to which host, that host's IPv4 address, whether it is in
-/// use, and where it leads.
+/// An address that an edge switch granted: to which host, that host's IPv4 address, and what it is used
+/// for.
 #[derive(Clone, Copy, Debug, PartialEq, Eq)]
 pub struct Grant {
     pub amac: Mac,
     pub ip: Option<Ip4>,
-    pub in_use: bool,
-    pub trap: Option<Trap>,
+    pub held: AddressUse,
 }
 
 /// The last source of a port, and the IPv4 address that it gave there.

@@ -12,4 +12,5 @@ pub mod Within
 pub mod Missing
 pub mod Touched
 pub mod Filled
+pub mod Shared
 pub mod Exports

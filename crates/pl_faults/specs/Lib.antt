@@ -3,3 +3,4 @@ pub mod Kept
 pub mod Listed
 pub mod Rows
 pub mod Missed
+pub mod Sharing

@@ -15,5 +15,6 @@ mod missed;
 mod reach;
 mod renewing;
 mod row;
+mod sharing;
 mod tables;
 mod telling;

@@ -12,7 +12,7 @@ use crate::leading::Leading;
 use crate::missed::missed_in;
 use crate::reach::{has_level, has_pod};
 use pl_frame::SwitchId;
-use pl_node::{AvoidList, AvoidRow, Memory, Place};
+use pl_node::{AvoidBits, AvoidList, AvoidRow, Memory, Place};
 use pl_reports::Reports;
 use std::alloc::Global;
 
@@ -25,8 +25,22 @@ pub(crate) fn avoid_list_of(
 ) -> Result<AvoidList, Memory>
     ensures { IfOk result (λ list. IsLeading reports.now leading.now → list ≡ avoid_list reports.now switch) }
 {
+    let bits = avoided_by(alloc, reports, leading, switch)?;
+    let list = AvoidList::of(alloc, bits)?;
+    Ok(list)
+}
+
+// The same, as it is made.
+fn avoided_by(
+    alloc: Global,
+    reports: &Reports,
+    leading: &Leading,
+    switch: SwitchId,
+) -> Result<AvoidBits, Memory>
+    ensures { IfOk result (λ list. IsLeading reports.now leading.now → list ≡ avoid_list reports.now switch) }
+{
     let place = reports.place_of(switch);
-    let mut list = AvoidList::new(alloc);
+    let mut list = AvoidBits::new(alloc);
     for neighbour in reports.neighbours(switch) {
         add_neighbour(&mut list, reports, leading, place, switch, *neighbour)?;
     }
@@ -35,7 +49,7 @@ pub(crate) fn avoid_list_of(
 
 // Puts in for which addresses a switch at this place avoids a neighbour.
 fn add_neighbour(
-    list: &mut AvoidList,
+    list: &mut AvoidBits,
     reports: &Reports,
     leading: &Leading,
     place: Place,
@@ -64,7 +78,7 @@ fn is_none(missed: &[Edge]) -> bool
 
 // Puts in those that a neighbour above misses: by a row of bits, and one by one where they have no bit.
 fn add_missed(
-    list: &mut AvoidList,
+    list: &mut AvoidBits,
     missed: &[Edge],
     place: Place,
     switch: SwitchId,
@@ -113,7 +127,7 @@ fn with_number(row: AvoidRow, number: Option<usize>) -> AvoidRow
 
 // Puts in those that have no bit.
 fn add_others(
-    list: &mut AvoidList,
+    list: &mut AvoidBits,
     missed: &[Edge],
     place: Place,
     switch: SwitchId,
@@ -128,7 +142,7 @@ fn add_others(
 }
 
 fn add_other(
-    list: &mut AvoidList,
+    list: &mut AvoidBits,
     edge: &Edge,
     place: Place,
     switch: SwitchId,

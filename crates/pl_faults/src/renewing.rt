@@ -1,13 +1,14 @@
-ghost use Rattle.std.specs.Prelude.{OnOk, fold};
+ghost use Rattle.std.specs.Prelude.{IfOk, OnOk, fold};
 ghost use Rattle.pl_node.specs.AvoidLists.{avoid_list};
 ghost use Rattle.pl_node.specs.ManagerViews.{Told};
 ghost use Rattle.pl_faults.specs.Kept.{AreTablesOf, AreTablesRenewed, IsKeptUp, IsLinkWord, IsListRenewed, IsPlaceWord};
 ghost use Rattle.pl_faults.specs.Listed.{is_in, with_below};
 ghost use Rattle.pl_faults.specs.Missed.{IsLeading};
+ghost use Rattle.pl_faults.specs.Sharing.{MayBeShared};
 
 use crate::leading::{is_none_placed, link_leading, place_leading};
 use crate::listed::{put_all_below, with_hearers};
-use crate::making::avoid_list_of;
+use crate::sharing::{Shared, list_after};
 use crate::tables::Tables;
 use pl_frame::SwitchId;
 use pl_node::{AvoidList, Memory, SwitchList};
@@ -67,18 +68,26 @@ impl Tables {
         ensures { OnOk result (IsLeading self.old.reports self.old.leading →
             AreTablesRenewed (is_in asked.now) self.old self.new) }
     {
+        let mut last = None;
         for switch in asked {
-            self.renew_list(*switch)?;
+            last = self.renew_list(*switch, last)?;
         }
         Ok(())
     }
 
-    fn renew_list(&mut self, switch: SwitchId) -> Result<(), Memory>
-        ensures { OnOk result (IsLeading self.old.reports self.old.leading →
-            IsListRenewed switch (avoid_list self.old.reports switch) self.old self.new) }
+    // The answer is the last list that others may have.
+    fn renew_list(
+        &mut self,
+        switch: SwitchId,
+        last: Option<Shared>,
+    ) -> Result<Option<Shared>, Memory>
+        ensures list { OnOk result (IsLeading self.old.reports self.old.leading →
+            MayBeShared self.old.reports self.old.leading last → IsListRenewed switch (avoid_list self.old.reports switch) self.old self.new) }
+        ensures next { IfOk result (λ next. IsLeading self.old.reports self.old.leading →
+            MayBeShared self.old.reports self.old.leading last → MayBeShared self.old.reports self.old.leading next) }
     {
-        let list = avoid_list_of(self.alloc, &self.reports, &self.leading, switch)?;
+        let (list, next) = list_after(self.alloc, &self.reports, &self.leading, switch, last)?;
         self.renew(switch, list)?;
-        Ok(())
+        Ok(next)
     }
 }

@@ -1,4 +1,4 @@
-use Rattle.std.proofs.Common.{◌≡◌, ◌∙◌, ◌&&◌, ◌||◌, ap, sym}
+use Rattle.std.proofs.Common.{◌∙◌, ◌&&◌, ◌||◌, ap, sym}
 use Rattle.pl_bits.specs.Bits.{has_bit}
 use Rattle.pl_node.specs.AvoidRows.{number_of}
 use Rattle.pl_faults.specs.Missed.{is_number}

@@ -2,7 +2,7 @@ use Rattle.std.proofs.Common.{◌≡◌, take}
 use Rattle.std.specs.Prelude.{fold, []}
 use Rattle.pl_faults.specs.Making.{with_neighbour}
 use Rattle.pl_faults.specs.Missed.{IsLeading}
-use Rattle.pl_faults.proofs.making.avoid_list_of.Given as goal
+use Rattle.pl_faults.proofs.making.avoided_by.Given as goal
 
 abbrev pub invariant-loop-neighbour : goal.invariant-loop-neighbour
 invariant-loop-neighbour l =

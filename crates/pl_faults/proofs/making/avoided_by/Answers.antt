@@ -5,7 +5,7 @@ use Rattle.std.proofs.lemmas.List.Sums.{fold_more}
 use Rattle.pl_frame.specs.declared.address.SwitchId.{SwitchId}
 use Rattle.pl_faults.specs.Making.{with_neighbour}
 use Rattle.pl_faults.proofs.Made.{list_made}
-use Rattle.pl_faults.proofs.making.avoid_list_of.Goals as goal
+use Rattle.pl_faults.proofs.making.avoided_by.Goals as goal
 
 pub loop-neighbour-preserved : goal.loop-neighbour-preserved
 loop-neighbour-preserved c led =

@@ -4,6 +4,7 @@ use Rattle.std.specs.Prelude.{unwrap_or}
 use Rattle.std.specs.List.{filter, find, list_any}
 use Rattle.std.specs.Option.{option_and_then, option_map, option_or}
 use Rattle.std.specs.Map.{keys_of}
+use Rattle.std.specs.BTreeMap.{is_at}
 use Rattle.std.proofs.Math.Dec.{eqb-suc-zero}
 use Rattle.std.proofs.lemmas.Bool.{false≢true}
 use Rattle.pl_frame.specs.declared.address.SwitchId.{SwitchId}
@@ -12,13 +13,15 @@ use Rattle.pl_layouts.specs.Equality.{same_switch}
 use Rattle.pl_layouts.specs.Placement.{is_known, nowhere}
 use Rattle.pl_layouts.proofs.Exports.{switch_itself}
 use Rattle.pl_node.specs.declared.messages.TreePart.{TreePart}
-use Rattle.pl_node.specs.ManagerViews.{Members, Told, alive_at_level, edge_at, has_level, id_cmp, is_alive, neighbours, place_of, switches, tellers, value_at}
+use Rattle.pl_node.specs.ManagerViews.{Members, Told, alive_at_level, alive_neighbours, edge_at, has_level, id_cmp, is_alive, neighbours, place_of, switches, tellers, value_at}
 use Rattle.pl_node.specs.Trees.{aggregation_part, best_cores, core_for, core_of, core_part, cores, edge_part, largest, needed_edges, part_under, reach, serves, tree_part}
 use Rattle.pl_node.proofs.Exports.{among_filter, among_in_order, among_left, any_among, got_among, IsAmong}
 use Rattle.pl_manager_rule.proofs.Exports.{found_key, id_exact, same_is, switch_turned}
+use Rattle.pl_groups.specs.Rooted.{IsRoot}
 use Rattle.pl_groups.specs.Serving.{AreServed, many_served, part_of_told}
+use Rattle.pl_groups.specs.declared.root.Root.{Root}
 use Rattle.pl_groups.proofs.Reached.{is_adjacent}
-use Rattle.pl_groups.proofs.Edges.{Served, any_more}
+use Rattle.pl_groups.proofs.Edges.{Served, any_more, is_here, served_by_neighbours}
 use Rattle.pl_groups.proofs.Rows.{many_is}
 
 -- ---- lists
@@ -67,9 +70,33 @@ core_down told needed served core all =
     serving a = ap (λ n. not (n == 0)) (many_is told needed served a all) ∙ sym (any_kept (is_alive told a) needed)
 
 pub up_found : (told : Told) (s : SwitchId) (test : SwitchId → Bool) →
-    find (λ a. is_adjacent told s a && test a) (neighbours told s) ≡ find test (alive_at_level told s 1)
-up_found told s test =
-    sym (find_filtered (is_adjacent told s) test (neighbours told s)) ∙ ap (find test) (sym (adjacent_at_level told s))
+    find (λ a. has_level told a 1 && test a) (alive_neighbours told s) ≡ find test (alive_at_level told s 1)
+up_found told s test = sym (find_filtered (λ a. has_level told a 1) test (alive_neighbours told s))
+
+-- ---- who is linked to the core switch
+pub linked_is : (told : Told) (root : Root) (s : SwitchId) → IsRoot told root → list_any (is_at (id_cmp s)) root.near ≡ is_alive told s root.core
+linked_is told root s is =
+    ap (list_any (is_at (id_cmp s))) is
+    ∙ (λ i. list_any (λ u. (is_here s u ∙ switch_turned u s) i) (alive_neighbours told root.core))
+    ∙ served_by_neighbours told root.core s
+
+-- ---- the part of one switch, by what it is
+module _ (told : Told) (needed : List SwitchId) (s core : SwitchId) (other : same_switch s core ≡ false) where
+  pub of_aggregation : (has_level told s 1 && is_alive told s core) ≡ true → Some (aggregation_part told needed core s) ≡ part_under told needed s core
+  of_aggregation under = sym (by other under)
+    where
+      by : {a b : Bool} → a ≡ false → b ≡ true →
+          cond a (Some (core_part told needed core)) (cond b (Some (aggregation_part told needed core s)) (option_map (edge_part told core) (edge_at s (place_of told s))))
+          ≡ Some (aggregation_part told needed core s)
+      by e f = λ i. cond (e i) (Some (core_part told needed core)) (cond (f i) (Some (aggregation_part told needed core s)) (option_map (edge_part told core) (edge_at s (place_of told s))))
+
+  pub of_edge : (has_level told s 1 && is_alive told s core) ≡ false → option_map (edge_part told core) (edge_at s (place_of told s)) ≡ part_under told needed s core
+  of_edge under = sym (by other under)
+    where
+      by : {a b : Bool} → a ≡ false → b ≡ false →
+          cond a (Some (core_part told needed core)) (cond b (Some (aggregation_part told needed core s)) (option_map (edge_part told core) (edge_at s (place_of told s))))
+          ≡ option_map (edge_part told core) (edge_at s (place_of told s))
+      by e f = λ i. cond (e i) (Some (core_part told needed core)) (cond (f i) (Some (aggregation_part told needed core s)) (option_map (edge_part told core) (edge_at s (place_of told s))))
 
 -- ---- a loop that looks for the first
 found_here : {X : Type 0} (p : X → Bool) (xs : List X) (x : X) (ys : List X) → find p xs ≡ None → p x ≡ true → find p (xs ++ x ∷ ys) ≡ Some x
@@ -202,15 +229,12 @@ part_is told members group needed core part s is found made =
     ∙ parts_are told members group s core (core_is told members group needed core is found)
 
 -- ---- whether a neighbour above an edge switch leads up, tested in another order
-pub up_near : (adjacent in_pod linked : Bool) → (linked && in_pod) ≡ true → adjacent ≡ (adjacent && (in_pod && linked))
-up_near false in_pod linked h = refl
-up_near true true true h = refl
-up_near true true false h = absurd (false≢true h)
-up_near true false true h = absurd (false≢true h)
-up_near true false false h = absurd (false≢true h)
+pub up_near : (above in_pod linked : Bool) → linked ≡ true → (above && in_pod) ≡ (above && (in_pod && linked))
+up_near above true true h = refl
+up_near above false true h = refl
+up_near above in_pod false h = absurd (false≢true h)
 
-pub up_far : (adjacent in_pod linked : Bool) → (linked && in_pod) ≡ false → false ≡ (adjacent && (in_pod && linked))
+pub up_far : (above in_pod linked : Bool) → linked ≡ false → false ≡ (above && (in_pod && linked))
 up_far false in_pod linked h = refl
-up_far true true true h = absurd (false≢true (sym h))
-up_far true true false h = refl
 up_far true false linked h = refl
+up_far true true linked h = sym h

@@ -1,4 +1,5 @@
 pub mod Serving
+pub mod Rooted
 pub mod Reaching
 pub mod Rostering
 pub mod Kept

@@ -13,5 +13,6 @@ mod groups;
 mod needs;
 mod parts;
 mod place_tests;
+mod root;
 mod roster;
 mod tree;

@@ -1,18 +1,23 @@
 ghost use Rattle.std.specs.Prelude.{◌≡◌, ◌==◌, ◌&&◌, IfOk, find, not, option_map};
+ghost use Rattle.std.specs.BTreeMap.{is_at};
 ghost use Rattle.std.specs.Cmp.Lexicographic.{pointwise};
+ghost use Rattle.std.specs.List.{list_any};
 ghost use Rattle.std.specs.List.Sorted.{IsStrictlySortedBy};
 ghost use Rattle.std.specs.Option.{option_copied};
 ghost use Rattle.pl_frame.specs.declared.address.SwitchId.{SwitchId};
 ghost use Rattle.pl_layouts.specs.Equality.{same_switch};
-ghost use Rattle.pl_node.specs.ManagerViews.{alive_at_level, edge_at, has_level, has_pod, id_cmp, is_alive, place_of, value_at};
+ghost use Rattle.pl_layouts.specs.Placement.{is_known};
+ghost use Rattle.pl_node.specs.ManagerViews.{alive_at_level, edge_at, has_level, has_pod, id_cmp, is_alive, value_at};
 ghost use Rattle.pl_node.specs.Trees.{aggregation_part, core_part, edge_part, part_under};
 ghost use Rattle.pl_manager_rule.specs.ManagerRule.{same_part, same_up};
+ghost use Rattle.pl_groups.specs.Rooted.{IsRoot};
 ghost use Rattle.pl_groups.specs.Serving.{AreServed, many_served};
 
 use crate::needs::{Served, add_if, edges_of, many_served};
-use crate::place_tests::{has_level, has_pod, is_adjacent};
+use crate::place_tests::{is_adjacent, is_of_pod, is_on_level};
+use crate::root::{Root, is_linked};
 use pl_frame::SwitchId;
-use pl_node::{Memory, SwitchList, TreePart};
+use pl_node::{Memory, Place, SwitchList, TreePart};
 use pl_reports::Reports;
 use std::alloc::Global;
 
@@ -22,20 +27,30 @@ pub(crate) fn part_under(
     reports: &Reports,
     needed: &[SwitchId],
     served: &Served,
+    root: &Root,
     switch: SwitchId,
-    core: SwitchId,
 ) -> Result<Option<TreePart>, Memory>
     requires rising { IsStrictlySortedBy id_cmp needed.now }
     requires served { AreServed reports.now needed.now served.now.entries }
-    ensures { IfOk result (λ part. part ≡ part_under reports.now needed.now switch core) }
+    requires root { IsRoot reports.now root.now }
+    ensures { IfOk result (λ part. part ≡ part_under reports.now needed.now switch root.now.core) }
 {
-    if switch == core {
-        return Ok(Some(core_part(alloc, reports, needed, served, core)?));
+    if switch == root.core {
+        return Ok(Some(core_part(alloc, reports, needed, served, root.core)?));
     }
-    if has_level(reports, switch, 1) && reports.is_alive(switch, core) {
-        return Ok(Some(aggregation_part(alloc, reports, needed, served, core, switch)?));
+    let place = reports.place_of(switch);
+    if is_under(root, switch, place) {
+        let part = aggregation_part(alloc, reports, needed, served, root.core, switch)?;
+        return Ok(Some(part));
     }
-    Ok(edge_part(alloc, reports, core, switch))
+    Ok(edge_part(alloc, reports, root, switch, place))
+}
+
+// Whether a switch at this place is an aggregation switch that is linked to the core switch.
+fn is_under(root: &Root, switch: SwitchId, place: Place) -> bool
+    ensures { result ≡ (is_known place.level 1 && list_any (is_at (id_cmp switch)) root.now.near) }
+{
+    is_on_level(place, 1) && is_linked(root, switch)
 }
 
 // The core switch sends to its aggregation switches that serve a needed edge switch.
@@ -86,13 +101,19 @@ fn aggregation_part(
 }
 
 // A placed edge switch sends up to the first aggregation switch of its pod that is linked to the core switch.
-fn edge_part(alloc: Global, reports: &Reports, core: SwitchId, switch: SwitchId) -> Option<TreePart>
-    ensures { result ≡ option_map (edge_part reports.now core) (edge_at switch (place_of reports.now switch)) }
+fn edge_part(
+    alloc: Global,
+    reports: &Reports,
+    root: &Root,
+    switch: SwitchId,
+    place: Place,
+) -> Option<TreePart>
+    requires { IsRoot reports.now root.now }
+    ensures { result ≡ option_map (edge_part reports.now root.now.core) (edge_at switch place) }
 {
-    let place = reports.place_of(switch);
     match (place.level, place.position, place.pod) {
         (Some(0), Some(_), Some(pod)) => Some(TreePart {
-            up: first_up(reports, core, switch, pod),
+            up: first_up(reports, root, switch, pod),
             down: SwitchList::new(alloc),
         }),
         _ => None,
@@ -100,39 +121,35 @@ fn edge_part(alloc: Global, reports: &Reports, core: SwitchId, switch: SwitchId)
 }
 
 // The first neighbour above an edge switch that is of its pod and linked to the core switch.
-fn first_up(reports: &Reports, core: SwitchId, switch: SwitchId, pod: u16) -> Option<SwitchId>
-    ensures { result ≡ find (λ a. has_pod reports.now a pod && is_alive reports.now a core) (alive_at_level reports.now switch 1) }
+fn first_up(reports: &Reports, root: &Root, switch: SwitchId, pod: u16) -> Option<SwitchId>
+    requires { IsRoot reports.now root.now }
+    ensures { result ≡ find (λ a. has_pod reports.now a pod && is_alive reports.now a root.now.core) (alive_at_level reports.now switch 1) }
 {
-    for neighbour in reports.neighbours(switch) {
-        if leads_up(reports, core, switch, *neighbour, pod) {
+    for neighbour in reports.alive_neighbours(switch) {
+        if leads_up(reports, root, *neighbour, pod) {
             return Some(*neighbour);
         }
     }
     None
 }
 
-fn leads_up(
-    reports: &Reports,
-    core: SwitchId,
-    switch: SwitchId,
-    neighbour: SwitchId,
-    pod: u16,
-) -> bool
-    ensures { result ≡ ((is_alive reports.now switch neighbour && has_level reports.now neighbour 1)
-        && (has_pod reports.now neighbour pod && is_alive reports.now neighbour core)) }
+// Whether a neighbour is an aggregation switch of a pod and linked to the core switch.
+fn leads_up(reports: &Reports, root: &Root, neighbour: SwitchId, pod: u16) -> bool
+    requires { IsRoot reports.now root.now }
+    ensures { result ≡ (has_level reports.now neighbour 1 && (has_pod reports.now neighbour pod && is_alive reports.now neighbour root.now.core)) }
 {
-    if is_near(reports, core, neighbour, pod) {
-        is_adjacent(reports, switch, neighbour)
-    } else {
-        false
+    if !is_linked(root, neighbour) {
+        return false;
     }
+    is_above(reports, neighbour, pod)
 }
 
-// Whether a switch of a pod is linked to the core switch.
-fn is_near(reports: &Reports, core: SwitchId, neighbour: SwitchId, pod: u16) -> bool
-    ensures { result ≡ (is_alive reports.now neighbour core && has_pod reports.now neighbour pod) }
+// Whether a switch is an aggregation switch of a pod.
+fn is_above(reports: &Reports, switch: SwitchId, pod: u16) -> bool
+    ensures { result ≡ (has_level reports.now switch 1 && has_pod reports.now switch pod) }
 {
-    reports.is_alive(neighbour, core) && has_pod(reports, neighbour, pod)
+    let place = reports.place_of(switch);
+    is_on_level(place, 1) && is_of_pod(place, pod)
 }
 
 /// Whether two parts are the same.

@@ -1,7 +1,9 @@
 ghost use Rattle.std.specs.Prelude.{◌≡◌, ◌&&◌};
-ghost use Rattle.pl_node.specs.ManagerViews.{has_level, has_pod, is_alive};
+ghost use Rattle.pl_layouts.specs.Placement.{is_known};
+ghost use Rattle.pl_node.specs.ManagerViews.{has_level, is_alive};
 
 use pl_frame::SwitchId;
+use pl_node::Place;
 use pl_reports::Reports;
 
 /// Whether a switch told that it has this level.
@@ -11,11 +13,18 @@ pub(crate) fn has_level(reports: &Reports, switch: SwitchId, level: u8) -> bool
     reports.place_of(switch).level == Some(level)
 }
 
-/// Whether a switch told that it is of this pod.
-pub(crate) fn has_pod(reports: &Reports, switch: SwitchId, pod: u16) -> bool
-    ensures { result ≡ has_pod reports.now switch pod }
+/// Whether a place is on this level.
+pub(crate) fn is_on_level(place: Place, level: u8) -> bool
+    ensures { result ≡ is_known place.level level }
 {
-    reports.place_of(switch).pod == Some(pod)
+    place.level == Some(level)
+}
+
+/// Whether a place is of this pod.
+pub(crate) fn is_of_pod(place: Place, pod: u16) -> bool
+    ensures { result ≡ is_known place.pod pod }
+{
+    place.pod == Some(pod)
 }
 
 /// Whether a neighbour of a switch is an aggregation switch over an alive link.

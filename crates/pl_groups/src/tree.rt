@@ -13,6 +13,7 @@ ghost use Rattle.pl_groups.specs.declared.tree.Tree.{Tree};
 use crate::cores::core_for;
 use crate::needs::{Served, served_edges};
 use crate::parts::part_under;
+use crate::root::root_at;
 use pl_frame::SwitchId;
 use pl_node::{Memory, TreePart};
 use pl_reports::Reports;
@@ -104,9 +105,10 @@ fn parts_under(
     ensures { IfOk result (λ parts. (s : SwitchId) → value_at id_cmp parts.entries s
         ≡ (if list_any (same_switch s) (switches reports.now) then part_under reports.now needed.now s core else None)) }
 {
+    let root = root_at(alloc, reports, core)?;
     let mut parts = BTreeMap::new(alloc);
     for switch in reports.switches() {
-        let part = part_under(alloc, reports, needed, served, *switch, core)?;
+        let part = part_under(alloc, reports, needed, served, &root, *switch)?;
         keep_part(&mut parts, *switch, part)?;
     }
     Ok(parts)

@@ -11,7 +11,7 @@ pub loop-switch-preserved : goal.loop-switch-preserved
 loop-switch-preserved c =
     parts_next c.args.reports.now c.args.needed.now c.switches-switch-items.result.now c.args.core c.loop-switch.switch-index _
     c.loop-switch.parts.entries c.keep_part.new.parts.entries c.in_ok-part.part (grind (arith, common_steps)) c.loop-switch.invariant
-    c.in_ok-keep_part.ensures c.in_ok-part.ensures
+    c.in_ok-keep_part.ensures (c.in_ok-part.ensures ∙ ap (part_under c.args.reports.now c.args.needed.now _) c.in_ok-root.ensures.core)
 
 pub returns : goal.returns
 returns c = λ s.

@@ -8,4 +8,4 @@ use Rattle.pl_groups.proofs.tree.parts_under.Given as goal
 
 abbrev pub invariant-loop-switch : goal.invariant-loop-switch
 invariant-loop-switch l =
-    (s : SwitchId) → value_at id_cmp l.parts.entries s ≡ cond (list_any (same_switch s) (take l.switch-index l.switch-items)) (part_under l.reports l.needed s l.core) None
+    (s : SwitchId) → value_at id_cmp l.parts.entries s ≡ cond (list_any (same_switch s) (take l.switch-index l.switch-items)) (part_under l.reports l.needed s l.fn.core) None

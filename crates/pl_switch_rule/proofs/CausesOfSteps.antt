@@ -12,6 +12,7 @@ use Rattle.pl_pmac.proofs.Exports.{length-mac_of}
 use Rattle.pl_node.specs.Accounting.{CanCome, IsShaped}
 use Rattle.pl_node.specs.SwitchInputs.{SwitchInput}
 use Rattle.pl_node.specs.SwitchInputs.SwitchInput.{Comes, Says, Tick}
+use Rattle.pl_node.specs.AddressUses.{is_in_use}
 use Rattle.pl_node.specs.declared.switch_records.Grant.{Grant}
 use Rattle.pl_node.specs.SwitchViews.{SwitchView}
 use Rattle.pl_node.specs.declared.messages.ToSwitch.{ToSwitch}
@@ -97,7 +98,7 @@ probe_drops_for old amac (Some ip) v = record { came = refl; made = refl; once =
 
 probes_drop_for : (old : Pmac) (grant : Grant) (v : SwitchView) → DropsFor (probes old grant v).acts None None
 probes_drop_for old grant v =
-    cond_both grant.in_use (probes_at old grant.amac grant.ip v) (rests v) (λ s. DropsFor s.acts None None)
+    cond_both (is_in_use grant.held) (probes_at old grant.amac grant.ip v) (rests v) (λ s. DropsFor s.acts None None)
     (λ used. probe_drops_for old grant.amac grant.ip v) (λ other. drops_nothing [] tt)
 
 members_go_on : (v : SwitchView) (port : ℕ) (amac : Mac) → AllGoOn (forgets_members port amac v).acts

@@ -24,6 +24,7 @@ use Rattle.pl_layouts.specs.Memberships.{changes_in}
 use Rattle.pl_node.specs.PortRecords.{is_open_to_hosts, new_port, port_of, ports_of_switch, with_port}
 use Rattle.pl_layouts.specs.Placement.{is_placed}
 use Rattle.pl_steps.specs.Steps.{SwitchStep, rests, ◌▹◌}
+use Rattle.pl_node.specs.AddressUses.{is_in_use}
 use Rattle.pl_node.specs.declared.switch_records.Grant.{Grant}
 use Rattle.pl_node.specs.declared.switch_records.Source.{Source}
 use Rattle.pl_node.specs.SwitchViews.{SwitchView}
@@ -143,7 +144,7 @@ served_grants_next v port amac ip within =
     let grants : List Grant = grants_at v port ++ new_grant amac ip ∷ [] in
     has_served port amac (grants_next v port amac ip)
     (ap (λ gs. is_some (in_use gs amac)) (grants_at-with v port grants within)
-    ∙ last_found (λ grant. grant.in_use && same_mac grant.amac amac) 1 (grants_at v port) (new_grant amac ip) ((bytes_eq-Decides amac.0 amac.0).1 refl))
+    ∙ last_found (λ grant. is_in_use grant.held && same_mac grant.amac amac) 1 (grants_at v port) (new_grant amac ip) ((bytes_eq-Decides amac.0 amac.0).1 refl))
 
 served_learns_ip : (v : SwitchView) (port vmid : ℕ) (amac : Mac) (o : Option Grant) (ip : Option Ip4) → port < length v.grants →
     HasAddress v port amac → grant_number (grants_at v port) vmid ≡ o → IsServed port amac (learns_ip v (address_at_port v port vmid) o ip)
@@ -157,7 +158,7 @@ served_learns_ip v port vmid amac (Some grant) (Some ip) within has at =
     cond_both (is_ip grant.ip ip) (rests v) told (IsServed port amac) (λ known. has_served port amac (rests v) has)
     (λ heard. has_served port amac told
     (ap (λ gs. is_some (in_use gs amac)) (grants_at-with v port grants within)
-    ∙ ap is_some (replaced_found (λ g. g.in_use && same_mac g.amac amac) 1 (grants_at v port) (vmid - 1) grant new
+    ∙ ap is_some (replaced_found (λ g. is_in_use g.held && same_mac g.amac amac) 1 (grants_at v port) (vmid - 1) grant new
     (numbered_at (grants_at v port) vmid grant at) refl) ∙ has))
 
 served_grants_or_learns : (v : SwitchView) (port : ℕ) (amac : Mac) (ip : Option Ip4) (o : Option ℕ) → port < length v.grants →

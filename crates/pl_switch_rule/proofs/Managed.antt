@@ -20,6 +20,7 @@ use Rattle.pl_switch_rule.specs.Messages.{answer_frame, flood_frame, floods, for
 use Rattle.pl_steps.specs.Steps.{SwitchStep, does, rests, ◌▹◌}
 use Rattle.pl_switch_rule.specs.SwitchRule.{IsChoice}
 use Rattle.pl_node.specs.SwitchInputs.SwitchInput.{Says}
+use Rattle.pl_node.specs.AddressUses.{is_in_use}
 use Rattle.pl_node.specs.declared.switch_records.Grant.{Grant}
 use Rattle.pl_node.specs.SwitchViews.{SwitchView}
 use Rattle.pl_switch_rule.proofs.AllSteps.{IsAccountedStep}
@@ -81,7 +82,7 @@ probes_at_settled old amac (Some ip) v shaped within six =
 probes_settled : (old : Pmac) (grant : Grant) (v : SwitchView) → IsShaped v → IsGrantedAt v.k old.port grant →
     IsSettled v (probes old grant v)
 probes_settled old grant v shaped at =
-    if_settled v grant.in_use (probes_at old grant.amac grant.ip v) (rests v)
+    if_settled v (is_in_use grant.held) (probes_at old grant.amac grant.ip v) (rests v)
     (probes_at_settled old grant.amac grant.ip v shaped at.within at.six) (rests_settled v shaped)
 
 pub invalidates_settled : (v : SwitchView) (old : Pmac) (trap : Trap) (o : Option Grant) → IsShaped v → AreGrantedAt v.k old.port o →

@@ -16,6 +16,8 @@ use Rattle.pl_layouts.specs.Memberships.{changes_in}
 use Rattle.pl_switch_rule.specs.Messages.{forgets_members, hears_pod, sets_trap, takes_pod, with_part}
 use Rattle.pl_node.specs.Traps.{newer_trap}
 use Rattle.pl_steps.specs.Steps.{does, rests}
+use Rattle.pl_node.specs.AddressUses.{standing_trap}
+use Rattle.pl_node.specs.declared.address_use.AddressUse.TheVariants.{Trapped}
 use Rattle.pl_node.specs.declared.switch_records.Grant.{Grant}
 use Rattle.pl_node.specs.declared.switch_records.Member.{Member}
 use Rattle.pl_node.specs.SwitchViews.{SwitchView}
@@ -72,7 +74,7 @@ quiet_packet_acts v port frame arp s = quiet_step v v (packet_acts v port frame 
 -- A trap.
 
 pub same_sets_trap : (v : SwitchView) (old : Pmac) (grant : Grant) (trap : Trap) → IsShaped v → HasMac grant → IsSame v (sets_trap v old grant trap)
-same_sets_trap v old grant trap s mac = same_with_grant v old (record grant { in_use = false; trap = Some (newer_trap trap grant.trap) }) s mac
+same_sets_trap v old grant trap s mac = same_with_grant v old (record grant { held = Trapped (newer_trap trap (standing_trap grant.held)) 0 }) s mac
 
 pub quiet_sets_trap : (v : SwitchView) (old : Pmac) (grant : Grant) (trap : Trap) → IsShaped v → HasMac grant → IsQuiet v (does (sets_trap v old grant trap) [])
 quiet_sets_trap v old grant trap s mac = quiet_rests v (sets_trap v old grant trap) (same_sets_trap v old grant trap s mac)

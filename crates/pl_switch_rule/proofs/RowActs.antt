@@ -22,6 +22,7 @@ use Rattle.pl_layouts.specs.Placement.{is_known, is_placed, same_place}
 use Rattle.pl_node.specs.declared.acts.Act.{Act}
 use Rattle.pl_node.specs.declared.acts.Act.TheVariants as act
 use Rattle.pl_node.specs.declared.messages.ToManager.TheVariants as tell
+use Rattle.pl_node.specs.AddressUses.{is_in_use}
 use Rattle.pl_node.specs.declared.switch_records.Grant.{Grant}
 use Rattle.pl_node.specs.declared.switch_records.Member.{Member}
 use Rattle.pl_node.specs.declared.switch_records.Source.{Source}
@@ -349,4 +350,4 @@ module _ (P : Act → Type 0) where
 
     pub probes_acts : (old : Pmac) (grant : Grant) (v : SwitchView) → W old.port → ((i : Ip4) → P (act.Make (probe_frame old i))) → Each (probes old grant v)
     probes_acts old grant v way made =
-        cond_both grant.in_use (probes_at old grant.amac grant.ip v) (rests v) Each (λ used. probes_at_acts old grant.amac grant.ip v way made) (λ unused. tt)
+        cond_both (is_in_use grant.held) (probes_at old grant.amac grant.ip v) (rests v) Each (λ used. probes_at_acts old grant.amac grant.ip v way made) (λ unused. tt)

@@ -17,6 +17,7 @@ use Rattle.pl_layouts.specs.Memberships.{is_group, membership_in}
 use Rattle.pl_layouts.specs.Placement.{is_known, is_placed}
 use Rattle.pl_node.specs.declared.acts.Act.TheVariants.{Drop, Tell}
 use Rattle.pl_node.specs.declared.messages.ToManager.TheVariants.{Learned}
+use Rattle.pl_node.specs.AddressUses.{is_in_use}
 use Rattle.pl_node.specs.declared.switch_records.Grant.{Grant}
 use Rattle.pl_node.specs.declared.switch_records.Member.{Member}
 use Rattle.pl_node.specs.declared.switch_records.Source.{Source}
@@ -111,7 +112,7 @@ probes_at_stays old amac (Some ip) v = refl
 
 pub probes_stay : (old : Pmac) (grant : Grant) (v : SwitchView) → Stays v (probes old grant v)
 probes_stay old grant v =
-    cond_both grant.in_use (probes_at old grant.amac grant.ip v) (rests v) (Stays v) (λ used. probes_at_stays old grant.amac grant.ip v) (λ unused. refl)
+    cond_both (is_in_use grant.held) (probes_at old grant.amac grant.ip v) (rests v) (Stays v) (λ used. probes_at_stays old grant.amac grant.ip v) (λ unused. refl)
 
 -- A frame that is taken in goes on, or ends here, and leaves the view; or it changes what is known of members.
 pub taken_in : (choose : Choice) (port : ℕ) (frame : List ℕ) (v : SwitchView) (S : SwitchStep → Type 0) → ((cause : _) → S (does v (Drop cause ∷ []))) →

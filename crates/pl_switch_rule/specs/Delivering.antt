@@ -15,6 +15,7 @@ use Rattle.pl_switch_rule.specs.Forwarding.{Choice, forwards}
 use Rattle.pl_layouts.specs.Frames.{arriving, is_arp}
 use Rattle.pl_switch_rule.specs.Granting.{granted, is_local}
 use Rattle.pl_steps.specs.Steps.{SwitchStep, does, ◌▹◌}
+use Rattle.pl_node.specs.AddressUses.{standing_trap}
 use Rattle.pl_node.specs.declared.switch_records.Grant.{Grant}
 use Rattle.pl_node.specs.SwitchViews.{SwitchView}
 use Rattle.pl_layouts.specs.ArpFrames.{arp_frame}
@@ -32,7 +33,7 @@ delivers v frame = delivers_to v (destination frame) frame (granted v (destinati
 
 abbrev pub grant_trap : Option Grant → Option Trap
 grant_trap None = None
-grant_trap (Some grant) = grant.trap
+grant_trap (Some grant) = standing_trap grant.held
 
 -- the trap that stands here for an address
 abbrev pub trap_for : SwitchView → Pmac → Option Trap

@@ -10,6 +10,8 @@ use Rattle.pl_node.specs.declared.messages.ToManager.TheVariants.{Learned}
 use Rattle.pl_layouts.specs.Frames.{packet_in}
 use Rattle.pl_layouts.specs.Placement.{is_known, is_placed}
 use Rattle.pl_steps.specs.Steps.{SwitchStep, rests, ◌▹◌}
+use Rattle.pl_node.specs.AddressUses.{is_in_use}
+use Rattle.pl_node.specs.declared.address_use.AddressUse.TheVariants.{InUse}
 use Rattle.pl_node.specs.declared.switch_records.Grant.{Grant}
 use Rattle.pl_node.specs.declared.switch_records.Source.{Source}
 use Rattle.pl_node.specs.SwitchViews.{SwitchView}
@@ -40,7 +42,7 @@ is_granted v address = is_some (granted v address)
 
 -- the vmid of the address that a source has in use at a port
 abbrev pub in_use : List Grant → Mac → Option ℕ
-in_use grants amac = position_from (λ grant. grant.in_use && same_mac grant.amac amac) 1 grants
+in_use grants amac = position_from (λ grant. is_in_use grant.held && same_mac grant.amac amac) 1 grants
 
 abbrev pub with_grants : SwitchView → ℕ → List Grant → SwitchView
 with_grants v port grants = record v { grants = slice_set v.grants port grants }
@@ -50,7 +52,7 @@ abbrev pub with_grant : SwitchView → Pmac → Grant → SwitchView
 with_grant v address grant = with_grants v address.port (slice_set (grants_at v address.port) (address.vmid - 1) grant)
 
 abbrev pub new_grant : Mac → Option Ip4 → Grant
-new_grant amac ip = record { amac = amac; ip = ip; in_use = true; trap = None }
+new_grant amac ip = record { amac = amac; ip = ip; held = InUse 0 }
 
 -- the next address of a port is granted, and the manager is told
 abbrev pub grants_next : SwitchView → ℕ → Mac → Option Ip4 → SwitchStep

@@ -23,6 +23,8 @@ use Rattle.pl_switch_rule.specs.Intake.{is_member, members_become}
 use Rattle.pl_switch_rule.specs.Levels.{changes_to, with_pod}
 use Rattle.pl_layouts.specs.Placement.{is_known}
 use Rattle.pl_steps.specs.Steps.{SwitchStep, does, rests, ◌▹◌}
+use Rattle.pl_node.specs.AddressUses.{is_in_use, standing_trap}
+use Rattle.pl_node.specs.declared.address_use.AddressUse.TheVariants.{Trapped}
 use Rattle.pl_node.specs.declared.switch_records.Grant.{Grant}
 use Rattle.pl_node.specs.SwitchViews.{SwitchView}
 use Rattle.pl_layouts.specs.ArpFrames.{arp_frame, broadcast, no_mac}
@@ -60,7 +62,7 @@ probe_frame old ip =
 
 -- a trap stands for an address from then on, and it is in use no more
 abbrev pub sets_trap : SwitchView → Pmac → Grant → Trap → SwitchView
-sets_trap v old grant trap = with_grant v old (record grant { in_use = false; trap = Some (newer_trap trap grant.trap) })
+sets_trap v old grant trap = with_grant v old (record grant { held = Trapped (newer_trap trap (standing_trap grant.held)) 0 })
 
 abbrev pub probes_at : Pmac → Mac → Option Ip4 → SwitchView → SwitchStep
 probes_at old amac None v = rests v
@@ -69,7 +71,7 @@ probes_at old amac (Some ip) v =
 
 -- where the address was in use, its host is probed
 abbrev pub probes : Pmac → Grant → SwitchView → SwitchStep
-probes old grant v = if grant.in_use then probes_at old grant.amac grant.ip v else rests v
+probes old grant v = if is_in_use grant.held then probes_at old grant.amac grant.ip v else rests v
 
 -- what the host at the old port had joined is forgotten
 abbrev pub forgets_members : ℕ → Mac → SwitchView → SwitchStep

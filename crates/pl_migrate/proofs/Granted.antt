@@ -9,12 +9,14 @@ use Rattle.pl_frame.specs.declared.address.Ip4.{Ip4}
 use Rattle.pl_frame.specs.declared.address.Mac.{Mac}
 use Rattle.pl_pmac.specs.declared.pmac.Pmac.{Pmac}
 use Rattle.pl_layouts.specs.Equality.{same_mac}
+use Rattle.pl_node.specs.AddressUses.{is_in_use, standing_trap}
+use Rattle.pl_node.specs.declared.address_use.AddressUse.TheVariants.{Trapped}
 use Rattle.pl_node.specs.declared.switch_records.Grant.{Grant}
 use Rattle.pl_node.specs.declared.trap.Trap.{Trap}
 use Rattle.pl_node.specs.Traps.{newer_trap}
 use Rattle.pl_switch_rule.specs.Delivering.{grant_trap}
 use Rattle.pl_switch_rule.specs.Granting.{grant_number, in_use, new_grant}
-use Rattle.pl_migrate.specs.AddressTables.{AddressTableView, address_in, address_in_use, granted_in, grantee_at, grants_of, is_here, is_in_use, is_used, next_address, numbered, trap_in, with_granted, with_next, with_port}
+use Rattle.pl_migrate.specs.AddressTables.{AddressTableView, address_in, address_in_use, granted_in, grantee_at, grants_of, is_address_in_use, is_here, is_used, next_address, numbered, trap_in, with_granted, with_next, with_port}
 use Rattle.pl_migrate.specs.declared.grantee.Grantee.{Grantee}
 use Rattle.pl_migrate.specs.Keeping.{IsGrantedOnce, KeepsGrants, KeepsTraps}
 use Rattle.pl_migrate.specs.PortGrants.{ArePortGrants, TakesPlaceOf, is_used_by}
@@ -106,8 +108,8 @@ replaced grants vmid new None found fits are = absurd fits
 replaced grants vmid new (Some old) found fits are = record {
   numbered = let same = length-set grants (vmid - 1) new in let n = are.numbered in omega arith;
   one_each = λ amac. at_most_set (is_used_by amac) grants (vmid - 1) old new (is_numbered grants vmid old found).at
-      (λ t. let parts = and_parts new.in_use (same_mac new.amac amac) t in
-      and_from old.in_use (same_mac old.amac amac) (fits.1 parts.0) (sym (ap (λ m. same_mac m amac) fits.0) ∙ parts.1))
+      (λ t. let parts = and_parts (is_in_use new.held) (same_mac new.amac amac) t in
+      and_from (is_in_use old.held) (same_mac old.amac amac) (fits.1 parts.0) (sym (ap (λ m. same_mac m amac) fits.0) ∙ parts.1))
       (are.one_each amac);
 }
 
@@ -141,7 +143,7 @@ keeps_changed address_table address old new found amac =
           ]);
     }
 
-pub traps_changed : (address_table : AddressTableView) (address : Pmac) (old new : Grant) → granted_in address_table address ≡ Some old → new.trap ≡ old.trap →
+pub traps_changed : (address_table : AddressTableView) (address : Pmac) (old new : Grant) → granted_in address_table address ≡ Some old → standing_trap new.held ≡ standing_trap old.held →
     KeepsTraps address_table (with_granted address_table address new)
 traps_changed address_table address old new found trap =
     let is = is_granted_here address_table address old found in
@@ -177,7 +179,7 @@ others_unchanged address_table address old new found other apart =
 
 -- who has which address in use stays
 pub used_changed : (address_table : AddressTableView) (address : Pmac) (old new : Grant) → granted_in address_table address ≡ Some old → new.amac ≡ old.amac →
-    new.in_use ≡ old.in_use → (port : ℕ) (amac : Mac) → address_in_use (with_granted address_table address new) port amac ≡ address_in_use address_table port amac
+    is_in_use new.held ≡ is_in_use old.held → (port : ℕ) (amac : Mac) → address_in_use (with_granted address_table address new) port amac ≡ address_in_use address_table port amac
 used_changed address_table address old new found mac used port amac =
     let is = is_granted_here address_table address old found in
     let numbered_as = is_numbered (grants_of address_table address.port) address.vmid old is.number in
@@ -187,7 +189,7 @@ used_changed address_table address old new found mac used port amac =
           (ap (λ n. in_use (grants_of (with_port address_table address.port set) n) amac) at
           ∙ ap (λ (gs : List Grant). in_use gs amac) (grants_of_same address_table address.port set is.within)
           ∙ position_set (is_used_by amac) 1 (grants_of address_table address.port) (address.vmid - 1) old new numbered_as.at
-          (ap (λ u. u && same_mac new.amac amac) used ∙ ap (λ m. old.in_use && same_mac m amac) mac)
+          (ap (λ u. u && same_mac new.amac amac) used ∙ ap (λ m. is_in_use old.held && same_mac m amac) mac)
           ∙ sym (ap (λ n. in_use (grants_of address_table n) amac) at))
       | inr apart ↦ ap (λ (gs : List Grant). numbered address_table port (in_use gs amac)) (grants_of_other address_table address.port port set apart)
     ]
@@ -195,14 +197,14 @@ used_changed address_table address old new found mac used port amac =
 -- what a trap that is set for an address gives
 pub record HasTrapSet (old new : AddressTableView) (address : Pmac) (to : Trap) : Type 0 where
   pub newest : trap_in new address ≡ Some (newer_trap to (trap_in old address))
-  pub unused : is_in_use new address ≡ false
+  pub unused : is_address_in_use new address ≡ false
   pub others : (other : Pmac) → other ≢ address → granted_in new other ≡ granted_in old other
   pub kept : KeepsGrants old new
 
 pub trap_is_set : (old new : AddressTableView) (address : Pmac) (to : Trap) (grant : Grant) (trap : Trap) → granted_in old address ≡ Some grant →
-    trap ≡ newer_trap to grant.trap → new ≡ with_granted old address (record grant { in_use = false; trap = Some trap }) → HasTrapSet old new address to
+    trap ≡ newer_trap to (standing_trap grant.held) → new ≡ with_granted old address (record grant { held = Trapped trap 0 }) → HasTrapSet old new address to
 trap_is_set old new address to grant trap found newer is =
-    let unused : Grant = record grant { in_use = false; trap = Some trap } in
+    let unused : Grant = record grant { held = Trapped trap 0 } in
     let changed = granted_changed old address grant unused found in
     subst (λ address_table. HasTrapSet old address_table address to) (sym is) (record {
       newest = ap grant_trap changed ∙ ap (λ (t : Trap). Some t) (newer ∙ sym (ap (λ o. newer_trap to (grant_trap o)) found));

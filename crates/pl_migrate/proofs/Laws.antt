@@ -8,6 +8,7 @@ use Rattle.std.proofs.lemmas.Option.{get_or_from_slice_get, same_Some, slice_get
 use Rattle.std.proofs.lemmas.Slice.Eq.{bytes_eq-Decides}
 use Rattle.pl_frame.specs.declared.address.Mac.{Mac}
 use Rattle.pl_pmac.specs.declared.pmac.Pmac.{Pmac}
+use Rattle.pl_node.specs.AddressUses.{is_in_use}
 use Rattle.pl_node.specs.declared.switch_records.Grant.{Grant}
 use Rattle.pl_node.specs.declared.trap.Trap.{Trap}
 use Rattle.pl_node.specs.Traps.{newer_trap}
@@ -60,7 +61,7 @@ in_use_is_own address_table port amac None address used found = absurd (let e = 
 in_use_is_own address_table port amac (Some vmid) address used found =
     let is = found_item (is_used_by amac) 1 vmid (grants_of address_table port) used in
     let from = is.from in
-    let parts = and_parts is.item.in_use (same_mac is.item.amac amac) is.passes in
+    let parts = and_parts (is_in_use is.item.held) (same_mac is.item.amac amac) is.passes in
     let at : granted_in address_table address ≡ Some is.item =
     sym (ap (granted_in address_table) (same_Some _ _ found)) ∙ granted_itself address_table port vmid
     ∙ ap (λ b. cond b None (slice_get (grants_of address_table port) (vmid - 1))) (ne_eqb vmid 0 (λ e. omega arith)) ∙ is.at in
@@ -90,7 +91,7 @@ own_grant address_table port amac address (Some grant) at grantee used =
       grant = grant;
       at = at;
       port_is = ap (λ (g : Grantee). g.port) same;
-      passes = and_from grant.in_use (same_mac grant.amac amac) used ((bytes_eq-Decides grant.amac.0 amac.0).1 (ap (λ (g : Grantee). g.amac.0) same));
+      passes = and_from (is_in_use grant.held) (same_mac grant.amac amac) used ((bytes_eq-Decides grant.amac.0 amac.0).1 (ap (λ (g : Grantee). g.amac.0) same));
     }
 
 -- and no other is in use at that port

@@ -4,6 +4,7 @@ use Rattle.std.specs.List.{slice_get}
 use Rattle.std.specs.Prelude.{slice_set}
 use Rattle.std.proofs.lemmas.Bool.{eqb-false, ne_eqb}
 use Rattle.std.proofs.lemmas.Option.{slice_get_past}
+use Rattle.pl_node.specs.AddressUses.{standing_trap}
 use Rattle.pl_node.specs.declared.switch_records.Grant.{Grant}
 use Rattle.pl_switch_rule.specs.Delivering.{grant_trap}
 use Rattle.pl_switch_rule.specs.Granting.{grant_number}
@@ -15,7 +16,7 @@ get_push [] y i x at = absurd (let e = at in cc)
 get_push (z ∷ xs) y zero x at = at
 get_push (z ∷ xs) y (suc i) x at = get_push xs y i x at
 
-trap_push : (xs : List Grant) (y : Grant) (i : ℕ) → y.trap ≡ None → grant_trap (slice_get (xs ++ y ∷ []) i) ≡ grant_trap (slice_get xs i)
+trap_push : (xs : List Grant) (y : Grant) (i : ℕ) → standing_trap y.held ≡ None → grant_trap (slice_get (xs ++ y ∷ []) i) ≡ grant_trap (slice_get xs i)
 trap_push [] y zero none = none
 trap_push [] y (suc i) none = refl
 trap_push (x ∷ xs) y zero none = refl
@@ -54,7 +55,7 @@ number_push grants new vmid grant =
       | false ↦ λ found. get_push grants new (vmid - 1) grant found
     ]
 
-pub number_trap_push : (grants : List Grant) (new : Grant) (vmid : ℕ) → new.trap ≡ None →
+pub number_trap_push : (grants : List Grant) (new : Grant) (vmid : ℕ) → standing_trap new.held ≡ None →
     grant_trap (grant_number (grants ++ new ∷ []) vmid) ≡ grant_trap (grant_number grants vmid)
 number_trap_push grants new vmid none =
     elim (vmid == 0) as (λ b. grant_trap (cond b None (slice_get (grants ++ new ∷ []) (vmid - 1))) ≡ grant_trap (cond b None (slice_get grants (vmid - 1)))) [

@@ -4,6 +4,7 @@ use Rattle.pl_frame.specs.declared.address.Ip4.{Ip4}
 use Rattle.pl_frame.specs.declared.address.Mac.{Mac}
 use Rattle.pl_pmac.specs.declared.pmac.Pmac.{Pmac}
 use Rattle.pl_layouts.specs.declared.place.Place.{Place}
+use Rattle.pl_node.specs.AddressUses.{is_in_use}
 use Rattle.pl_node.specs.declared.switch_records.Grant.{Grant}
 use Rattle.pl_node.specs.declared.switch_records.Source.{Source}
 use Rattle.pl_node.specs.declared.trap.Trap.{Trap}
@@ -61,10 +62,10 @@ trap_in address_table address = grant_trap (granted_in address_table address)
 
 abbrev pub is_used : Option Grant → Bool
 is_used None = false
-is_used (Some grant) = grant.in_use
+is_used (Some grant) = is_in_use grant.held
 
-abbrev pub is_in_use : AddressTableView → Pmac → Bool
-is_in_use address_table address = is_used (granted_in address_table address)
+abbrev pub is_address_in_use : AddressTableView → Pmac → Bool
+is_address_in_use address_table address = is_used (granted_in address_table address)
 
 abbrev pub numbered : AddressTableView → ℕ → Option ℕ → Option Pmac
 numbered address_table port None = None

@@ -5,7 +5,7 @@ use Rattle.pl_pmac.specs.declared.pmac.Pmac.{Pmac}
 use Rattle.pl_node.specs.declared.trap.Trap.{Trap}
 use Rattle.pl_node.specs.Traps.{newer_trap}
 use Rattle.pl_migrate.specs.declared.grantee.Grantee.{Grantee}
-use Rattle.pl_migrate.specs.AddressTables.{AddressTableView, address_in_use, granted_in, grantee_in, is_in_use, trap_in}
+use Rattle.pl_migrate.specs.AddressTables.{AddressTableView, address_in_use, granted_in, grantee_in, is_address_in_use, trap_in}
 
 -- It is the address table of the same edge switch, and each address that was granted stays granted, to the same host at the same port.
 pub record KeepsGrants (old new : AddressTableView) : Type 0 where
@@ -27,7 +27,7 @@ IsGrantedOnce old port amac address =
 -- an address was granted to a host at a port, and is in use
 pub record IsHostsOwn (address_table : AddressTableView) (port : ℕ) (amac : Mac) (address : Pmac) : Type 0 where
   pub grantee : grantee_in address_table address ≡ Some (record { amac = amac; port = port })
-  pub used : is_in_use address_table address ≡ true
+  pub used : is_address_in_use address_table address ≡ true
 
 -- the trap that stands for an address behind one more that was set
 abbrev pub sets_trap_on : Option Trap → Trap → Option Trap

@@ -3,11 +3,12 @@ use Rattle.std.specs.Prelude.{◌≡◌, ◌≤◌, ◌&&◌, Bool, true, false,
 use Rattle.std.specs.List.{list_any}
 use Rattle.pl_frame.specs.declared.address.Mac.{Mac}
 use Rattle.pl_layouts.specs.Equality.{same_mac}
+use Rattle.pl_node.specs.AddressUses.{is_in_use}
 use Rattle.pl_node.specs.declared.switch_records.Grant.{Grant}
 
 -- a host has this address in use
 abbrev pub is_used_by : Mac → Grant → Bool
-is_used_by amac grant = grant.in_use && same_mac grant.amac amac
+is_used_by amac grant = is_in_use grant.held && same_mac grant.amac amac
 
 abbrev pub AtMostOne : {T : Type 0} → (T → Bool) → List T → Type 0
 AtMostOne test [] = Unit {0}
@@ -21,4 +22,4 @@ pub record ArePortGrants (grants : List Grant) : Type 0 where
 -- one grant may stand where another stood: it is the same host's, and in use only where that one is
 abbrev pub TakesPlaceOf : Grant → Option Grant → Type 0
 TakesPlaceOf new None = ⊥
-TakesPlaceOf new (Some old) = (new.amac ≡ old.amac) × (new.in_use ≡ true → old.in_use ≡ true)
+TakesPlaceOf new (Some old) = (new.amac ≡ old.amac) × (is_in_use new.held ≡ true → is_in_use old.held ≡ true)

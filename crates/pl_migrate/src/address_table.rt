@@ -11,7 +11,7 @@ ghost use Rattle.pl_steps.specs.Steps.{does};
 ghost use Rattle.pl_steps.specs.Taken.{IsTaken, IsTakenByPart};
 ghost use Rattle.pl_switch_rule.specs.Delivering.{addresses, if_newer, last_trap, redirects};
 ghost use Rattle.pl_switch_rule.specs.Granting.{granted, grants_at, grants_or_learns, grants_remembered, grants_source, in_use, learns_ip};
-ghost use Rattle.pl_migrate.specs.AddressTables.{address_in, address_in_use, address_table_in, empty_address_table, granted_in, grantee_in, grants_of, is_here, is_in_use, is_last_given, next_address, sources_in, trap_in, traps, with_granted, with_next};
+ghost use Rattle.pl_migrate.specs.AddressTables.{address_in, address_in_use, address_table_in, empty_address_table, granted_in, grantee_in, grants_of, is_address_in_use, is_here, is_last_given, next_address, sources_in, trap_in, traps, with_granted, with_next};
 ghost use Rattle.pl_migrate.specs.Keeping.{IsGrantedOnce, IsHostsOwn, KeepsGrants, KeepsTraps};
 ghost use Rattle.pl_migrate.specs.PortGrants.{TakesPlaceOf};
 ghost use Rattle.pl_layouts.specs.Equality.{is_ip};
@@ -19,7 +19,7 @@ ghost use Rattle.pl_layouts.specs.Equality.{is_ip};
 use crate::port_grants::PortGrants;
 use crate::{GrantError, Grantee};
 use pl_frame::{Ip4, Mac};
-use pl_node::{Act, Grant, Memory, Outbox, Source, ToManager, Trap};
+use pl_node::{Act, AddressUse, Grant, Memory, Outbox, Source, ToManager, Trap};
 use pl_pmac::Pmac;
 use std::alloc::Global;
 use std::marker::Model;
@@ -106,7 +106,7 @@ impl AddressTable {
         ensures { result ≡ trap_in self.now pmac }
     {
         match self.granted(pmac) {
-            Some(grant) => grant.trap,
+            Some(grant) => grant.held.trap(),
             None => None,
         }
     }
@@ -223,25 +223,24 @@ impl AddressTable {
     /// Sets a trap for an address, unless one with a larger number stands there: from now on the address
     /// is not in use. The answer is whether it was. An address that was never granted here gets no trap.
     pub fn trap(&mut self, old: Pmac, to: Trap) -> Result<bool, Memory>
-        ensures answer { result ≡ Ok (is_in_use self.old old) }
+        ensures answer { result ≡ Ok (is_address_in_use self.old old) }
         ensures step { (v : SwitchView) → address_table_in self.new v ≡ traps (address_table_in self.old v) old to (granted (address_table_in self.old v) old) }
         ensures newest { granted_in self.old old ≢ None → trap_in self.new old ≡ Some (newer_trap to (trap_in self.old old)) }
-        ensures unused { is_in_use self.new old ≡ false }
+        ensures unused { is_address_in_use self.new old ≡ false }
         ensures others { (pmac : Pmac) → pmac ≢ old → granted_in self.new pmac ≡ granted_in self.old pmac }
         ensures kept { KeepsGrants self.old self.new }
     {
         match self.granted(old) {
             Some(grant) => {
-                let trap = Some(to.or_newer(grant.trap));
+                let trap = to.or_newer(grant.held.trap());
                 self.replace(
                     old,
                     Grant {
-                        in_use: false,
-                        trap,
+                        held: AddressUse::Trapped(trap, 0),
                         ..grant
                     },
                 );
-                Ok(grant.in_use)
+                Ok(grant.held.is_in_use())
             }
             None => Ok(false),
         }

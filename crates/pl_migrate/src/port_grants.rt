@@ -3,7 +3,7 @@ ghost use Rattle.pl_switch_rule.specs.Granting.{grant_number, in_use, new_grant}
 ghost use Rattle.pl_migrate.specs.PortGrants.{is_used_by, ArePortGrants, AtMostOne, TakesPlaceOf};
 
 use pl_frame::{Ip4, Mac};
-use pl_node::{Grant, Memory};
+use pl_node::{AddressUse, Grant, Memory};
 use std::alloc::Global;
 use std::marker::Model;
 
@@ -69,8 +69,7 @@ impl PortGrants {
         self.grants.push(Grant {
             amac,
             ip,
-            in_use: true,
-            trap: None,
+            held: AddressUse::InUse(0),
         })?;
         Ok(())
     }
@@ -100,5 +99,5 @@ fn newest_in_use(grants: &[Grant], amac: Mac) -> Option<u16>
 fn is_used_by(grant: &Grant, amac: Mac) -> bool
     ensures { result ≡ is_used_by amac grant.now }
 {
-    grant.in_use && grant.amac == amac
+    grant.held.is_in_use() && grant.amac == amac
 }

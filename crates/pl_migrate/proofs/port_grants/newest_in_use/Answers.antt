@@ -1,12 +1,13 @@
 use Rattle.std.proofs.Common.{◌≡◌, ◌<◌, ◌-◌, ℕ, true, false, [], length, drop, get_or, Some, None, sym, ap, subst, ◌∙◌, arith}
 use Rattle.std.specs.List.{list_any}
+use Rattle.pl_node.specs.declared.address_use.AddressUse.TheVariants.{InUse}
 use Rattle.pl_node.specs.declared.switch_records.Grant.{Grant}
 use Rattle.pl_migrate.specs.PortGrants.{is_used_by}
 use Rattle.pl_migrate.proofs.OneEach.{found_at, found_nowhere}
 use Rattle.pl_migrate.proofs.port_grants.newest_in_use.Goals as goal
 
 abbrev no_grant : Grant
-no_grant = record { amac = record { 0 = [] }; ip = None; in_use = false; trap = None }
+no_grant = record { amac = record { 0 = [] }; ip = None; held = InUse 0 }
 
 pub returns-then-is_used_by : goal.returns-then-is_used_by
 returns-then-is_used_by c =

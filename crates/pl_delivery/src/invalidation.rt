@@ -38,7 +38,7 @@ pub fn probe(alloc: Global, old: Pmac, grant: &Grant, out: &mut Outbox) -> Resul
     ensures { OnOk result ((v : SwitchView) → IsTaken (probes old grant.now v) v out.old out.new) }
 {
     match grant.ip {
-        Some(ip) if grant.in_use => send_probe(alloc, old, grant.amac, ip, out),
+        Some(ip) if grant.held.is_in_use() => send_probe(alloc, old, grant.amac, ip, out),
         _ => Ok(()),
     }
 }

@@ -1,51 +1,43 @@
 -- The fabric manager speaks to switches that it heard, and numbers just the addresses that it learns.
 use Rattle.std.proofs.Common.{◌≡◌, ◌≤◌, arith, ℕ, ◌+◌, ◌||◌, not, Bool, true, false, cond, List, [], ◌∷◌, ◌++◌, map, Option, Some, None, filter_map, flat_map, refl, sym, ap, append-nil, ◌∙◌, subst, inl, inr}
-use Rattle.std.specs.Prelude.{length, unwrap_or}
-use Rattle.std.specs.List.{find, list_all, list_any}
+use Rattle.std.specs.Prelude.{unwrap_or}
+use Rattle.std.specs.List.{list_all, list_any}
 use Rattle.std.proofs.lemmas.Bool.{and_from, cond_both, or_left}
 use Rattle.std.proofs.lemmas.List.Folds.{list_all-append}
 use Rattle.std.proofs.lemmas.List.Elements.{filter_map-append}
 use Rattle.pl_frame.specs.declared.address.Mac.{Mac}
 use Rattle.pl_frame.specs.declared.address.SwitchId.{SwitchId}
 use Rattle.pl_pmac.specs.declared.pmac.Pmac.{Pmac}
-use Rattle.pl_layouts.specs.Equality.{same_mac, same_pmac, same_switch}
+use Rattle.pl_layouts.specs.Equality.{same_pmac, same_switch}
 use Rattle.pl_layouts.proofs.Exports.{switch_itself}
 use Rattle.pl_node.specs.declared.acts.ManagerAct.TheVariants.{Say, Number}
 use Rattle.pl_node.specs.declared.messages.ToSwitch.{ToSwitch}
 use Rattle.pl_node.specs.declared.messages.ToSwitch.TheVariants as say
 use Rattle.pl_node.specs.declared.messages.ToManager.{ToManager}
 use Rattle.pl_node.specs.declared.messages.ToManager.TheVariants as tell
-use Rattle.pl_node.specs.ManagerViews.{Learnt, LearntAddress, ManagerView, Registration, is_heard, lookup, newest, numbered, pod_given, registry, switches, tellers}
+use Rattle.pl_node.specs.ManagerViews.{Learnt, ManagerView, Registration, is_heard, lookup, newest, pod_given, registered_as, registry, switches, tellers}
 use Rattle.pl_node.specs.ManagerFacts.{groups}
-use Rattle.pl_node.specs.ManagerDuties.{AnswersDuly, IsGrown, numbered_by, with_number, is_for_heard}
+use Rattle.pl_node.specs.ManagerDuties.{AnswersDuly, AreNumbered, IsGrown, numbered_by, with_number, is_for_heard}
 use Rattle.pl_node.specs.AvoidLists.{avoid_list}
 use Rattle.pl_node.proofs.Exports.{all_among, among_filter, among_flat_map, among_map, among_right, IsAmong}
-use Rattle.pl_manager_rule.specs.ManagerRule.{acts_of, answer_to, avoid_acts, changed, changed_of_group, invalidation, learning, manager_hears, manager_rule, part_in, reply, same_avoid_list, same_part, told_again, tree_acts, tree_acts_of, view_after, with_learnt}
-use Rattle.pl_manager_rule.proofs.Speakers.{heard_after, listed_is_heard, now_or_before, registered_heard}
-
-found_among : {X : Type 0} (test : X → Bool) (x : X) (xs : List X) → find test xs ≡ Some x → IsAmong x xs
-found_among test x [] h = let none : None ≡ Some x = h in cc
-found_among test x (y ∷ xs) h = by (λ k. found_among test x xs k) (test y) h
-  where
-    by : (find test xs ≡ Some x → IsAmong x xs) → (b : Bool) → cond b (Some y) (find test xs) ≡ Some x → IsAmong x (y ∷ xs)
-    by rest true k = inl cc
-    by rest false k = inr (rest k)
+use Rattle.pl_manager_rule.specs.ManagerRule.{ToldAddress, acts_of, answer_to, avoid_acts, changed, changed_of_group, host_of, invalidation, is_registered, learning, learnt_as, manager_hears, manager_rule, part_in, recalled, reply, same_avoid_list, same_part, told_again, tree_acts, tree_acts_of, view_after, with_learnt, with_owner}
+use Rattle.pl_manager_rule.proofs.Learning.{recalled_numbers, same_numbers}
+use Rattle.pl_manager_rule.proofs.Speakers.{heard_after, listed_is_heard, newest_heard, now_or_before}
 
 -- ---- the acts
 invalidation_heard : (view : ManagerView) (s : SwitchId) (learnt : Learnt) (new : Pmac) (n : ℕ) (amac : Mac) (o : Option Registration) →
     newest view.learnt amac ≡ o → list_all (is_for_heard view s) (invalidation learnt new n o) ≡ true
 invalidation_heard view s learnt new n amac None e = refl
 invalidation_heard view s learnt new n amac (Some old) e =
-    let addresses = view.learnt.addresses in let learners = map (λ a. a.switch) addresses in let members = map (λ m. m.0.0) view.members in
-    let told = registered_heard addresses old (found_among (λ r. same_mac r.amac amac) old (registry view.learnt) e) in
+    let learners = map (λ a. a.switch) view.learnt.addresses in let members = map (λ m. m.0.0) view.members in
     let among = among_right old.switch (tellers view.told) (members ++ (view.askers ++ learners))
-    (among_right old.switch members (view.askers ++ learners) (among_right old.switch view.askers learners told)) in
+    (among_right old.switch members (view.askers ++ learners) (among_right old.switch view.askers learners (newest_heard view.learnt amac old e))) in
     and_from (same_switch s old.switch || is_heard view old.switch) true (now_or_before view s old.switch (inr among)) refl
 
 learning_heard : (view : ManagerView) (s : SwitchId) (after : Learnt) (pmac : Pmac) (amac : Mac) →
     list_all (is_for_heard view s) (learning view.learnt after pmac amac) ≡ true
 learning_heard view s after pmac amac =
-    let n = length (registry view.learnt) + 1 in
+    let n = view.learnt.count + 1 in
     cond_both (list_any (λ r. same_pmac r.pmac pmac) (registry view.learnt)) [] (Number pmac n ∷ invalidation after pmac n (newest view.learnt amac))
     (λ acts. list_all (is_for_heard view s) acts ≡ true)
     (λ old. refl)
@@ -108,50 +100,46 @@ invalidation_numbers_nothing : (learnt : Learnt) (new : Pmac) (n : ℕ) (o : Opt
 invalidation_numbers_nothing learnt new n None = refl
 invalidation_numbers_nothing learnt new n (Some old) = refl
 
--- an IPv4 address that is told again changes no registration
-abbrev numbered_on : LearntAddress → List Registration → List Registration
-numbered_on a ns =
-    let new : Registration = record { pmac = a.pmac; amac = a.amac; number = length ns + 1; switch = a.switch } in
-    cond (list_any (λ r. same_pmac r.pmac a.pmac) ns) ns (new ∷ ns)
+-- what was learnt once this was told: of an address that was registered, or not
+abbrev learnt_by : Learnt → ToldAddress → Bool → Learnt
+learnt_by before new b = record {
+  addresses = cond b (map (told_again new) before.addresses)
+      (learnt_as (before.count + 1) new ∷ recalled (newest before new.amac) new.pmac (before.count + 1) before.addresses);
+  owners = with_owner before.owners new.ip (host_of before new);
+  count = cond b before.count (before.count + 1);
+}
 
-pub same_numbers : (new : LearntAddress) (addresses : List LearntAddress) → numbered (map (told_again new) addresses) ≡ numbered addresses
-same_numbers new [] = refl
-same_numbers new (a ∷ addresses) = ap (numbered_on a) (same_numbers new addresses)
-
--- a new address is one more registration
-one_registered : (new : LearntAddress) (addresses : List LearntAddress) → list_any (λ r. same_pmac r.pmac new.pmac) (numbered addresses) ≡ false →
-    let r : Registration = record { pmac = new.pmac; amac = new.amac; number = length (numbered addresses) + 1; switch = new.switch } in
-    numbered (new ∷ addresses) ≡ r ∷ numbered addresses
-one_registered new addresses e =
-    let r : Registration = record { pmac = new.pmac; amac = new.amac; number = length (numbered addresses) + 1; switch = new.switch } in
-    ap (λ b. cond b (numbered addresses) (r ∷ numbered addresses)) e
-
-learning_numbers : (before : Learnt) (new : LearntAddress) →
-    map with_number (registry (with_learnt before new))
-    ≡ filter_map numbered_by (learning before (with_learnt before new) new.pmac new.amac) ++ map with_number (registry before)
-learning_numbers before new = by (list_any (λ r. same_pmac r.pmac new.pmac) (registry before)) refl
+-- it is given the next number
+learning_numbers : (before : Learnt) (new : ToldAddress) →
+    AreNumbered before (with_learnt before new) (filter_map numbered_by (learning before (with_learnt before new) new.pmac new.amac))
+learning_numbers before new = by (is_registered before.addresses new.pmac)
   where
-    by : (b : Bool) → list_any (λ r. same_pmac r.pmac new.pmac) (registry before) ≡ b →
-        let n = length (registry before) + 1 in
-        map with_number (numbered (cond b (map (told_again new) before.addresses) (new ∷ before.addresses)))
-        ≡ filter_map numbered_by (cond b [] (Number new.pmac n ∷ invalidation (with_learnt before new) new.pmac n (newest before new.amac)))
-        ++ map with_number (registry before)
-    by true e = ap (map with_number) (same_numbers new before.addresses)
-    by false e =
-        let n = length (registry before) + 1 in
+    by : (b : Bool) → AreNumbered before (learnt_by before new b) (filter_map numbered_by
+        (cond b [] (Number new.pmac (before.count + 1) ∷ invalidation (with_learnt before new) new.pmac (before.count + 1) (newest before new.amac))))
+    by true = record { registered = ap (map with_number) (same_numbers new before.addresses); count = omega arith; next = tt }
+    by false =
+        let n = before.count + 1 in
         let one : Pmac × ℕ = (new.pmac, n) in
-        ap (map with_number) (one_registered new before.addresses e)
-        ∙ ap (λ ns. one ∷ (ns ++ map with_number (registry before))) (sym (invalidation_numbers_nothing (with_learnt before new) new.pmac n (newest before new.amac)))
+        let first : Registration = registered_as (learnt_as n new) in
+        subst (λ ns. AreNumbered before (learnt_by before new false) (one ∷ ns))
+        (sym (invalidation_numbers_nothing (with_learnt before new) new.pmac n (newest before new.amac)))
+        (record {
+          registered = ap (λ rs. map with_number (first ∷ rs)) (recalled_numbers (newest before new.amac) new.pmac n before.addresses);
+          count = omega arith;
+          next = (refl, tt);
+        })
+
+nothing_numbered : (learnt : Learnt) → AreNumbered learnt learnt []
+nothing_numbered learnt = record { registered = refl; count = omega arith; next = tt }
 
 reply_numbers : (view : ManagerView) (s : SwitchId) (says : ToManager) →
-    map with_number (registry (view_after view s says).learnt)
-    ≡ filter_map numbered_by (reply view (view_after view s says) s says) ++ map with_number (registry view.learnt)
-reply_numbers view s tell.PodWanted = refl
+    AreNumbered view.learnt (view_after view s says).learnt (filter_map numbered_by (reply view (view_after view s says) s says))
+reply_numbers view s tell.PodWanted = nothing_numbered view.learnt
 reply_numbers view s (tell.Learned pmac amac ip) = learning_numbers view.learnt (record { switch = s; pmac = pmac; amac = amac; ip = ip })
-reply_numbers view s (tell.Query asker asker_ip ip) = refl
-reply_numbers view s (tell.Place place) = refl
-reply_numbers view s (tell.Link u usable) = refl
-reply_numbers view s (tell.Members group any) = refl
+reply_numbers view s (tell.Query asker asker_ip ip) = nothing_numbered view.learnt
+reply_numbers view s (tell.Place place) = nothing_numbered view.learnt
+reply_numbers view s (tell.Link u usable) = nothing_numbered view.learnt
+reply_numbers view s (tell.Members group any) = nothing_numbered view.learnt
 
 acts_number : (view : ManagerView) (s : SwitchId) (says : ToManager) →
     filter_map numbered_by (acts_of view (view_after view s says) s says) ≡ filter_map numbered_by (reply view (view_after view s says) s says)
@@ -166,17 +154,12 @@ acts_number view s says =
     ∙ append-nil (filter_map numbered_by own)
 
 -- one address is learnt at most
-one_more : (before : Learnt) (new : LearntAddress) → length (registry (with_learnt before new)) ≤ length (registry before) + 1
-one_more before new = by (list_any (λ r. same_pmac r.pmac new.pmac) (registry before)) refl
-  where
-    by : (b : Bool) → list_any (λ r. same_pmac r.pmac new.pmac) (registry before) ≡ b →
-        length (numbered (cond b (map (told_again new) before.addresses) (new ∷ before.addresses))) ≤ length (registry before) + 1
-    by true e = let same = ap (λ rs. length rs) (same_numbers new before.addresses) in omega (arith, same)
-    by false e = let more = ap (λ rs. length rs) (one_registered new before.addresses e) in omega (arith, more)
+one_more : (b : Bool) (n : ℕ) → cond b n (n + 1) ≤ n + 1
+one_more true n = omega arith
+one_more false n = omega arith
 
-addresses_after : (view : ManagerView) (s : SwitchId) (says : ToManager) →
-    length (registry (view_after view s says).learnt) ≤ length (registry view.learnt) + 1
-addresses_after view s (tell.Learned pmac amac ip) = one_more view.learnt (record { switch = s; pmac = pmac; amac = amac; ip = ip })
+addresses_after : (view : ManagerView) (s : SwitchId) (says : ToManager) → (view_after view s says).learnt.count ≤ view.learnt.count + 1
+addresses_after view s (tell.Learned pmac amac ip) = one_more (is_registered view.learnt.addresses pmac) view.learnt.count
 addresses_after view s (tell.Query asker asker_ip ip) = omega arith
 addresses_after view s (tell.Place place) = omega arith
 addresses_after view s (tell.Link u usable) = omega arith
@@ -203,7 +186,8 @@ unfolding manager_hears
 manager_answers = record {
   heard = λ before s says after acts h. subst (λ a. list_all (is_for_heard before s) a ≡ true) (sym h.1) (acts_heard before s says);
   numbered = λ before s says after acts h.
-      ap (λ v. map with_number (registry v.learnt)) h.0 ∙ reply_numbers before s says
-      ∙ ap (λ ns. ns ++ map with_number (registry before.learnt)) (sym (acts_number before s says) ∙ ap (filter_map numbered_by) (sym h.1));
+      subst (λ v. AreNumbered before.learnt v.learnt (filter_map numbered_by acts)) (sym h.0)
+      (subst (AreNumbered before.learnt (view_after before s says).learnt) (sym (ap (filter_map numbered_by) h.1 ∙ acts_number before s says))
+      (reply_numbers before s says));
   grows = λ before s says after acts h. subst (IsGrown before s) (sym h.0) (grown before s says);
 }

@@ -9,19 +9,21 @@ use Rattle.std.proofs.lemmas.Cmp.{nat_cmp_total, on_total, then_total}
 use Rattle.std.proofs.lemmas.Map.Lookups.{CmpEqualImpliesEq, exact_unsigned}
 use Rattle.pl_lemmas.proofs.Exports.{false_before, true_inside}
 use Rattle.pl_frame.specs.declared.address.Ip4.{Ip4}
+use Rattle.pl_frame.specs.declared.address.Mac.{Mac}
 use Rattle.pl_frame.specs.declared.address.SwitchId.{SwitchId}
 use Rattle.pl_pmac.specs.declared.pmac.Pmac.{Pmac}
 use Rattle.pl_layouts.specs.Equality.{same_pmac, same_switch}
-use Rattle.pl_layouts.proofs.Exports.{pmac_is, switch_itself}
+use Rattle.pl_layouts.proofs.Exports.{switch_itself}
 use Rattle.pl_node.specs.declared.messages.ToManager.{ToManager}
 use Rattle.pl_node.specs.declared.messages.ToManager.TheVariants as tell
 use Rattle.pl_node.specs.HostViews.{ip_cmp}
-use Rattle.pl_node.specs.ManagerViews.{LearntAddress, ManagerView, PodGiven, Registration, booted_manager, id_cmp, link_cmp, members_cmp, numbered, pods_given, Told, is_told_usable, neighbours, value_at}
+use Rattle.pl_node.specs.ManagerViews.{Learnt, LearntAddress, ManagerView, PodGiven, booted_manager, id_cmp, link_cmp, members_cmp, newest, pods_given, Told, is_told_usable, neighbours, value_at}
 use Rattle.pl_node.proofs.Exports.{among_filtered, among_in_order, among_map, among_mapped, id_total, IsAmong}
-use Rattle.pl_manager_rule.specs.ManagerRule.{manager_hears, told_again, view_after, with_address, with_asker, with_owner}
+use Rattle.pl_manager_rule.specs.ManagerRule.{ToldAddress, host_of, is_registered, learnt_as, manager_hears, recalled, told_again, view_after, with_address, with_asker, with_owner}
 use Rattle.pl_manager_rule.specs.Histories.{Word, known}
 use Rattle.pl_manager_rule.specs.Repeats.{TablesAreInOrder}
 use Rattle.pl_manager_rule.proofs.Avoided.{same_is}
+use Rattle.pl_manager_rule.proofs.Learning.{learnt_registered, same_field, same_recalled}
 use Rattle.pl_node.proofs.Exports.{both_equal, id_exact}
 use Rattle.pl_manager_rule.proofs.Registered.{pmac_turned, switch_turned}
 use Rattle.pl_manager_rule.proofs.Tables.{found_key, rising_put}
@@ -88,49 +90,26 @@ askers_kept askers s once =
     ))
 
 -- ---- addresses
--- each address that was learnt is registered
-pub learnt_is_registered : (addresses : List LearntAddress) (x : Pmac) → list_any (λ p. same_pmac p x) (map (λ a. a.pmac) addresses) ≡ true →
-    list_any (λ r. same_pmac r.pmac x) (numbered addresses) ≡ true
-learnt_is_registered [] x h = absurd (false≢true h)
-learnt_is_registered (a ∷ addresses) x h =
-    by (λ k. learnt_is_registered addresses x k) (list_any (λ r. same_pmac r.pmac a.pmac) (numbered addresses)) refl
-    (or_cases (same_pmac a.pmac x) (list_any (λ p. same_pmac p x) (map (λ c. c.pmac) addresses)) h)
-  where
-    new : Registration
-    new = record { pmac = a.pmac; amac = a.amac; number = length (numbered addresses) + 1; switch = a.switch }
-
-    by : (list_any (λ p. same_pmac p x) (map (λ c. c.pmac) addresses) ≡ true → list_any (λ r. same_pmac r.pmac x) (numbered addresses) ≡ true) →
-        (b : Bool) → list_any (λ r. same_pmac r.pmac a.pmac) (numbered addresses) ≡ b →
-        (same_pmac a.pmac x ≡ true) ⊎ (list_any (λ p. same_pmac p x) (map (λ c. c.pmac) addresses) ≡ true) →
-        list_any (λ r. same_pmac r.pmac x) (cond b (numbered addresses) (new ∷ numbered addresses)) ≡ true
-    by rest true there (inl is) = subst (λ p. list_any (λ r. same_pmac r.pmac p) (numbered addresses) ≡ true) (pmac_is a.pmac x is) there
-    by rest true there (inr k) = rest k
-    by rest false there (inl is) = or_left (same_pmac a.pmac x) (list_any (λ r. same_pmac r.pmac x) (numbered addresses)) is
-    by rest false there (inr k) = or_right (same_pmac a.pmac x) (list_any (λ r. same_pmac r.pmac x) (numbered addresses)) (rest k)
-
-same_pmacs : (new : LearntAddress) (addresses : List LearntAddress) → map (λ a. a.pmac) (map (told_again new) addresses) ≡ map (λ a. a.pmac) addresses
-same_pmacs new [] = refl
-same_pmacs new (a ∷ addresses) = ap (λ ps. a.pmac ∷ ps) (same_pmacs new addresses)
-
-addresses_kept : (addresses : List LearntAddress) (new : LearntAddress) → IsDistinct same_pmac (map (λ a. a.pmac) addresses) →
-    IsDistinct same_pmac (map (λ a. a.pmac) (with_address addresses new))
+addresses_kept : (learnt : Learnt) (new : ToldAddress) → IsDistinct same_pmac (map (λ a. a.pmac) learnt.addresses) →
+    IsDistinct same_pmac (map (λ a. a.pmac) (with_address learnt new))
 unfolding IsDistinct
-addresses_kept addresses new once =
-    let pmacs = map (λ a. a.pmac) addresses in
-    cond_both (list_any (λ r. same_pmac r.pmac new.pmac) (numbered addresses)) (map (told_again new) addresses) (new ∷ addresses)
+addresses_kept learnt new once =
+    let pmacs = map (λ (a : LearntAddress). a.pmac) learnt.addresses in
+    let n = learnt.count + 1 in
+    cond_both (is_registered learnt.addresses new.pmac) (map (told_again new) learnt.addresses)
+    (learnt_as n new ∷ recalled (newest learnt new.amac) new.pmac n learnt.addresses)
     (λ those. IsDistinct same_pmac (map (λ a. a.pmac) those))
-    (λ again. subst (IsDistinct same_pmac) (sym (same_pmacs new addresses)) once)
-    (λ first. (
-      none_alike same_pmac pmac_turned new.pmac pmacs
-          (false_before (list_any (λ p. same_pmac p new.pmac) pmacs) (list_any (λ r. same_pmac r.pmac new.pmac) (numbered addresses))
-          (learnt_is_registered addresses new.pmac) first),
+    (λ again. subst (IsDistinct same_pmac) (sym (same_field (λ a. a.pmac) (told_again new) (λ a. refl) learnt.addresses)) once)
+    (λ first. subst (λ ps. IsDistinct same_pmac (new.pmac ∷ ps))
+    (sym (same_recalled (λ a. a.pmac) (λ old x number a. refl) (newest learnt new.amac) new.pmac n learnt.addresses)) (
+      none_alike same_pmac pmac_turned new.pmac pmacs (learnt_registered learnt.addresses new.pmac ∙ first),
       once,
     ))
 
-owners_kept : (owners : List (Ip4 × Pmac)) (ip : Option Ip4) (pmac : Pmac) → IsStrictlySortedBy ip_cmp (keys_of owners) →
-    IsStrictlySortedBy ip_cmp (keys_of (with_owner owners ip pmac))
-owners_kept owners None pmac rising = rising
-owners_kept owners (Some ip) pmac rising = rising_put ip_cmp ip_total owners ip pmac rising
+owners_kept : (owners : List (Ip4 × Mac)) (ip : Option Ip4) (amac : Mac) → IsStrictlySortedBy ip_cmp (keys_of owners) →
+    IsStrictlySortedBy ip_cmp (keys_of (with_owner owners ip amac))
+owners_kept owners None amac rising = rising
+owners_kept owners (Some ip) amac rising = rising_put ip_cmp ip_total owners ip amac rising
 
 -- ---- the view
 pub boots_in_order : (k : ℕ) → TablesAreInOrder (booted_manager k)
@@ -167,8 +146,8 @@ kept view s (tell.Learned pmac amac ip) o = record {
   links = o.links;
   members = o.members;
   askers = o.askers;
-  addresses = addresses_kept view.learnt.addresses (record { switch = s; pmac = pmac; amac = amac; ip = ip }) o.addresses;
-  owners = owners_kept view.learnt.owners ip pmac o.owners;
+  addresses = addresses_kept view.learnt (record { switch = s; pmac = pmac; amac = amac; ip = ip }) o.addresses;
+  owners = owners_kept view.learnt.owners ip (host_of view.learnt (record { switch = s; pmac = pmac; amac = amac; ip = ip })) o.owners;
 }
 kept view s (tell.Query asker asker_ip ip) o = o
 kept view s (tell.Members group any) o = record {

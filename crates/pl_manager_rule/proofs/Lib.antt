@@ -4,9 +4,11 @@ pub mod Registered
 pub mod Parts
 pub mod Sameness
 pub mod Tables
+pub mod Learning
 pub mod Speakers
 pub mod Kept
 pub mod Repeated
 pub mod ToldLast
 pub mod History
+pub mod Newest
 pub mod Exports

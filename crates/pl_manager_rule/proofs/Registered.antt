@@ -2,14 +2,17 @@
 use Rattle.std.proofs.Common.{◌≡◌, ℕ, suc, ◌+◌, ◌&&◌, ◌||◌, Bool, true, false, cond, List, [], ◌∷◌, ◌++◌, map, reverse, length, Some, is_some, IsSome, refl, sym, ap, ◌∙◌, subst, arith, eq-eqb}
 use Rattle.std.specs.List.{AllByRecursion, IsDistinct, find, list_any, range_with_len}
 use Rattle.std.specs.Option.{option_map}
-use Rattle.std.proofs.lemmas.Bool.{false≢true, or_parts}
+use Rattle.std.proofs.lemmas.Bool.{cond_both, false≢true, or_parts}
 use Rattle.std.proofs.lemmas.Cmp.{nat_eq_equiv}
 use Rattle.std.proofs.lemmas.List.{length-map, reverse-append}
 use Rattle.pl_lemmas.proofs.Exports.{range_more}
 use Rattle.pl_frame.specs.declared.address.SwitchId.{SwitchId}
 use Rattle.pl_pmac.specs.declared.pmac.Pmac.{Pmac}
 use Rattle.pl_layouts.specs.Equality.{same_pmac, same_switch}
-use Rattle.pl_node.specs.ManagerViews.{LearntAddress, PodGiven, Registration, numbered, pod_given, pods_given}
+use Rattle.pl_node.specs.declared.messages.ToManager.{ToManager}
+use Rattle.pl_node.specs.declared.messages.ToManager.TheVariants as tell
+use Rattle.pl_node.specs.ManagerViews.{PodGiven, Registration, pod_given, pods_given}
+use Rattle.pl_manager_rule.specs.Histories.{Word, registered, registered_after}
 use Rattle.pl_manager_rule.specs.ManagerRule.{with_asker}
 
 -- one more number, the next one
@@ -40,29 +43,23 @@ pmac_turned a b = λ i. ((nat_eq_equiv.symm a.pod b.pod i && nat_eq_equiv.symm a
     && nat_eq_equiv.symm a.vmid b.vmid i
 
 -- ---- addresses
-pub numbers_in_order : (addresses : List LearntAddress) → reverse (map (λ r. r.number) (numbered addresses)) ≡ range_with_len 1 (length (numbered addresses))
-numbers_in_order [] = refl
-numbers_in_order (a ∷ addresses) = by (numbers_in_order addresses) (list_any (λ r. same_pmac r.pmac a.pmac) (numbered addresses))
-  where
-    by : reverse (map (λ r. r.number) (numbered addresses)) ≡ range_with_len 1 (length (numbered addresses)) → (b : Bool) →
-        let new : Registration = record { pmac = a.pmac; amac = a.amac; number = length (numbered addresses) + 1; switch = a.switch } in
-        let all = cond b (numbered addresses) (new ∷ numbered addresses) in
-        reverse (map (λ r. r.number) all) ≡ range_with_len 1 (length all)
-    by rest true = rest
-    by rest false =
-        let new : Registration = record { pmac = a.pmac; amac = a.amac; number = length (numbered addresses) + 1; switch = a.switch } in
-        one_more_item (λ r. r.number) 1 new (numbered addresses) (omega arith) rest
+abbrev IsNumbered : List Registration → Type 0
+IsNumbered rs = reverse (map (λ r. r.number) rs) ≡ range_with_len 1 (length rs)
 
-pub addresses_once : (addresses : List LearntAddress) → IsDistinct same_pmac (map (λ r. r.pmac) (numbered addresses))
-unfolding IsDistinct
-addresses_once [] = tt
-addresses_once (a ∷ addresses) = by (addresses_once addresses) (list_any (λ r. same_pmac r.pmac a.pmac) (numbered addresses)) refl
-  where
-    by : IsDistinct same_pmac (map (λ r. r.pmac) (numbered addresses)) → (b : Bool) → list_any (λ r. same_pmac r.pmac a.pmac) (numbered addresses) ≡ b →
-        let new : Registration = record { pmac = a.pmac; amac = a.amac; number = length (numbered addresses) + 1; switch = a.switch } in
-        IsDistinct same_pmac (map (λ r. r.pmac) (cond b (numbered addresses) (new ∷ numbered addresses)))
-    by rest true e = rest
-    by rest false e = (none_like (λ r. r.pmac) same_pmac pmac_turned a.pmac (numbered addresses) e, rest)
+numbered_after : (rs : List Registration) (s : SwitchId) (says : ToManager) → IsNumbered rs → IsNumbered (registered_after rs s says)
+numbered_after rs s (tell.Learned pmac amac ip) rest =
+    let new : Registration = record { pmac = pmac; amac = amac; number = length rs + 1; switch = s } in
+    cond_both (list_any (λ r. same_pmac r.pmac pmac) rs) rs (new ∷ rs) IsNumbered (λ again. rest)
+    (λ first. one_more_item (λ r. r.number) 1 new rs (omega arith) rest)
+numbered_after rs s (tell.Place place) rest = rest
+numbered_after rs s (tell.Link u usable) rest = rest
+numbered_after rs s tell.PodWanted rest = rest
+numbered_after rs s (tell.Query asker asker_ip ip) rest = rest
+numbered_after rs s (tell.Members group any) rest = rest
+
+pub numbers_in_order : (words : List Word) → reverse (map (λ r. r.number) (registered words)) ≡ range_with_len 1 (length (registered words))
+numbers_in_order [] = refl
+numbers_in_order (w ∷ before) = numbered_after (registered before) w.switch w.says (numbers_in_order before)
 
 -- ---- pods
 pub pods_in_order : (askers : List SwitchId) → reverse (map (λ g. g.pod) (pods_given askers)) ≡ range_with_len 0 (length (pods_given askers))

@@ -1,5 +1,5 @@
 -- A word that was told last already changes nothing.
-use Rattle.std.proofs.Common.{◌≡◌, ℕ, ◌||◌, not, Bool, true, false, cond, List, [], ◌∷◌, ◌++◌, ◌+◌, length, map, Option, Some, None, is_some, IsSome, filter, flat_map, refl, sym, ap, ◌∙◌, subst, append-nil}
+use Rattle.std.proofs.Common.{◌≡◌, ℕ, ◌||◌, not, Bool, true, false, cond, List, [], ◌∷◌, ◌++◌, ◌+◌, map, Option, Some, None, is_some, IsSome, filter, flat_map, refl, sym, ap, ◌∙◌, subst, append-nil}
 use Rattle.std.specs.List.{AllByRecursion, IsDistinct, find, list_any}
 use Rattle.std.specs.Option.{option_and_then, option_map, option_or}
 use Rattle.std.proofs.lemmas.Bool.{cond_both, false≢true}
@@ -14,12 +14,13 @@ use Rattle.pl_node.specs.declared.messages.ToManager.{ToManager}
 use Rattle.pl_node.specs.declared.messages.ToManager.TheVariants as tell
 use Rattle.pl_node.specs.HostViews.{ip_cmp}
 use Rattle.pl_node.specs.ManagerFacts.{groups}
-use Rattle.pl_node.specs.ManagerViews.{Learnt, LearntAddress, ManagerView, Told, id_cmp, link_cmp, members_cmp, newest, numbered, pods_given, registration, registry, switches}
+use Rattle.pl_node.specs.ManagerViews.{Learnt, LearntAddress, ManagerView, Registration, Told, id_cmp, link_cmp, members_cmp, newest, pods_given, registration, registry, switches}
 use Rattle.pl_node.specs.AvoidLists.{avoid_list}
-use Rattle.pl_manager_rule.specs.ManagerRule.{ManagerStep, acts_of, avoid_acts, invalidation, manager_hears, part_in, reply, same_avoid_list, same_part, told_again, tree_acts, tree_acts_of, view_after, with_address, with_learnt}
+use Rattle.pl_manager_rule.specs.ManagerRule.{ManagerStep, ToldAddress, acts_of, avoid_acts, host_of, invalidation, is_registered, learnt_as, manager_hears, part_in, recalled, reply, same_avoid_list, same_part, told_again, tree_acts, tree_acts_of, view_after, with_address, with_learnt, with_owner}
 use Rattle.pl_manager_rule.specs.Repeats.{HasToldLast, TablesAreInOrder, IsKnownAddress, answers}
 use Rattle.pl_manager_rule.proofs.Kept.{ip_exact, ip_total, link_exact, link_total, members_exact, members_total}
 use Rattle.pl_node.proofs.Exports.{id_exact}
+use Rattle.pl_manager_rule.proofs.Learning.{any_where_found, some_host}
 use Rattle.pl_manager_rule.proofs.Sameness.{avoid_lists_alike, parts_alike}
 use Rattle.pl_manager_rule.proofs.Tables.{put_again}
 use Rattle.pl_node.proofs.Exports.{id_total}
@@ -57,29 +58,20 @@ found_any f test (x ∷ xs) h = by (λ k. found_any f test xs k) (test x) h
     by rest true k = refl
     by rest false k = rest k
 
-found_any_item : {X : Type 0} (test : X → Bool) (xs : List X) → is_some (find test xs) ≡ true → list_any test xs ≡ true
-found_any_item test [] h = absurd (false≢true h)
-found_any_item test (x ∷ xs) h = by (λ k. found_any_item test xs k) (test x) h
-  where
-    by : (is_some (find test xs) ≡ true → list_any test xs ≡ true) → (b : Bool) →
-        is_some (cond b (Some x) (find test xs)) ≡ true → (b || list_any test xs) ≡ true
-    by rest true k = refl
-    by rest false k = rest k
-
 -- ---- the address that is told again
 -- its own IPv4 address, told again, leaves it as it is
-same_with : (new a : LearntAddress) → (same_pmac a.pmac new.pmac ≡ true → option_or new.ip a.ip ≡ a.ip) → told_again new a ≡ a
+same_with : (new : ToldAddress) (a : LearntAddress) → (same_pmac a.pmac new.pmac ≡ true → option_or new.ip a.ip ≡ a.ip) → told_again new a ≡ a
 same_with new a own =
     ap (λ ip. record a { ip = ip })
     (cond_both (same_pmac a.pmac new.pmac) (option_or new.ip a.ip) a.ip (λ ip. ip ≡ a.ip) own (λ other. refl))
 
-all_same : (new : LearntAddress) (addresses : List LearntAddress) →
+all_same : (new : ToldAddress) (addresses : List LearntAddress) →
     AllByRecursion (λ a. same_pmac a.pmac new.pmac ≡ true → option_or new.ip a.ip ≡ a.ip) addresses → map (told_again new) addresses ≡ addresses
 all_same new [] h = refl
 all_same new (a ∷ addresses) h = λ i. same_with new a h.0 i ∷ all_same new addresses h.1 i
 
 -- where each address is there once, the first that is found is the only one
-others : (new : LearntAddress) (p : Pmac) (addresses : List LearntAddress) → AllByRecursion (λ q. same_pmac p q ≡ false) (map (λ a. a.pmac) addresses) →
+others : (new : ToldAddress) (p : Pmac) (addresses : List LearntAddress) → AllByRecursion (λ q. same_pmac p q ≡ false) (map (λ a. a.pmac) addresses) →
     p ≡ new.pmac → AllByRecursion (λ a. same_pmac a.pmac new.pmac ≡ true → option_or new.ip a.ip ≡ a.ip) addresses
 others new p [] h is = tt
 others new p (a ∷ addresses) h is = (
@@ -87,7 +79,7 @@ others new p (a ∷ addresses) h is = (
   others new p addresses h.1 is,
 )
 
-only_one : (new : LearntAddress) (ip : Ip4) → new.ip ≡ Some ip → (addresses : List LearntAddress) → IsDistinct same_pmac (map (λ a. a.pmac) addresses) →
+only_one : (new : ToldAddress) (ip : Ip4) → new.ip ≡ Some ip → (addresses : List LearntAddress) → IsDistinct same_pmac (map (λ a. a.pmac) addresses) →
     option_and_then (λ a. a.ip) (find (λ a. same_pmac a.pmac new.pmac) addresses) ≡ Some ip →
     AllByRecursion (λ a. same_pmac a.pmac new.pmac ≡ true → option_or new.ip a.ip ≡ a.ip) addresses
 unfolding IsDistinct
@@ -103,31 +95,34 @@ only_one new ip names (a ∷ addresses) once found = by (λ k. only_one new ip n
     by rest false not k = (λ same. absurd (false≢true (sym not ∙ same)), rest k)
 
 -- where no IPv4 address is named, none changes
-all_silent : (new : LearntAddress) → new.ip ≡ None → (addresses : List LearntAddress) →
+all_silent : (new : ToldAddress) → new.ip ≡ None → (addresses : List LearntAddress) →
     AllByRecursion (λ a. same_pmac a.pmac new.pmac ≡ true → option_or new.ip a.ip ≡ a.ip) addresses
 all_silent new silent [] = tt
 all_silent new silent (a ∷ addresses) = (λ same. ap (λ o. option_or o a.ip) silent, all_silent new silent addresses)
 
-addresses_same : (view : ManagerView) (new : LearntAddress) → TablesAreInOrder view → IsSome (registration view.learnt new.pmac) →
+learnt_same : (view : ManagerView) (new : ToldAddress) → IsSome (registration view.learnt new.pmac) →
     AllByRecursion (λ a. same_pmac a.pmac new.pmac ≡ true → option_or new.ip a.ip ≡ a.ip) view.learnt.addresses →
-    with_address view.learnt.addresses new ≡ view.learnt.addresses
-addresses_same view new order there own =
-    let addresses = view.learnt.addresses in
-    ap (λ b. cond b (map (told_again new) addresses) (new ∷ addresses)) (found_any_item (λ r. same_pmac r.pmac new.pmac) (numbered addresses) there)
-    ∙ all_same new addresses own
+    with_owner view.learnt.owners new.ip (host_of view.learnt new) ≡ view.learnt.owners → with_learnt view.learnt new ≡ view.learnt
+learnt_same view new there own owners =
+    let learnt : Learnt = view.learnt in
+    let n = learnt.count + 1 in
+    let registered : is_registered learnt.addresses new.pmac ≡ true = any_where_found (λ (r : Registration). same_pmac r.pmac new.pmac) (registry learnt) there in
+    let those : with_address learnt new ≡ learnt.addresses =
+    ap (λ b. cond b (map (told_again new) learnt.addresses) (learnt_as n new ∷ recalled (newest learnt new.amac) new.pmac n learnt.addresses)) registered
+    ∙ all_same new learnt.addresses own in
+    λ i. record { addresses = those i; owners = owners i; count = cond (registered i) learnt.count (learnt.count + 1) }
 
-learnt_same : (view : ManagerView) (s : SwitchId) (pmac : Pmac) (amac : Mac) (ip : Option Ip4) → TablesAreInOrder view →
+told_same : (view : ManagerView) (s : SwitchId) (pmac : Pmac) (amac : Mac) (ip : Option Ip4) → TablesAreInOrder view →
     IsSome (registration view.learnt pmac) → IsKnownAddress view.learnt pmac ip →
     with_learnt view.learnt (record { switch = s; pmac = pmac; amac = amac; ip = ip }) ≡ view.learnt
-learnt_same view s pmac amac None order there known =
-    let new : LearntAddress = record { switch = s; pmac = pmac; amac = amac; ip = None } in
-    ap (λ those. let l : Learnt = record { addresses = those; owners = view.learnt.owners } in l)
-    (addresses_same view new order there (all_silent new refl view.learnt.addresses))
-learnt_same view s pmac amac (Some ip) order there known =
-    let new : LearntAddress = record { switch = s; pmac = pmac; amac = amac; ip = Some ip } in
-    let those = addresses_same view new order there (only_one new ip refl view.learnt.addresses order.addresses known.0) in
-    let owners = put_again ip_cmp ip_total ip_exact view.learnt.owners ip pmac order.owners known.1 in
-    λ i. record { addresses = those i; owners = owners i }
+told_same view s pmac amac None order there known =
+    let new : ToldAddress = record { switch = s; pmac = pmac; amac = amac; ip = None } in
+    learnt_same view new there (all_silent new refl view.learnt.addresses) refl
+told_same view s pmac amac (Some ip) order there known =
+    let new : ToldAddress = record { switch = s; pmac = pmac; amac = amac; ip = Some ip } in
+    learnt_same view new there (only_one new ip refl view.learnt.addresses order.addresses known.0)
+    (put_again ip_cmp ip_total ip_exact view.learnt.owners ip (host_of view.learnt new) order.owners
+    (known.1 ∙ some_host (registration view.learnt pmac) amac there))
 
 -- ---- the whole step
 pub view_same : (view : ManagerView) (s : SwitchId) (says : ToManager) → TablesAreInOrder view → HasToldLast view s says → view_after view s says ≡ view
@@ -140,7 +135,7 @@ view_same view s (tell.Link u usable) order last =
 view_same view s tell.PodWanted order last =
     ap (λ b. record view { askers = cond b view.askers (s ∷ view.askers) })
     (found_any (λ g. g.pod) (λ g. same_switch g.switch s) (pods_given view.askers) last)
-view_same view s (tell.Learned pmac amac ip) order last = ap (λ learnt. record view { learnt = learnt }) (learnt_same view s pmac amac ip order last.0 last.1)
+view_same view s (tell.Learned pmac amac ip) order last = ap (λ learnt. record view { learnt = learnt }) (told_same view s pmac amac ip order last.0 last.1)
 view_same view s (tell.Query asker asker_ip ip) order last = refl
 view_same view s (tell.Members group any) order last =
     ap (λ table. record view { members = table }) (put_again members_cmp members_total members_exact view.members (s, group) any order.members last)
@@ -150,8 +145,9 @@ only_answers view s (tell.Place place) last = refl
 only_answers view s (tell.Link u usable) last = refl
 only_answers view s tell.PodWanted last = refl
 only_answers view s (tell.Learned pmac amac ip) last =
-    let n = length (registry view.learnt) + 1 in
-    ap (λ b. cond b [] (Number pmac n ∷ invalidation view.learnt pmac n (newest view.learnt amac))) (found_any_item (λ r. same_pmac r.pmac pmac) (registry view.learnt) last.0)
+    let n = view.learnt.count + 1 in
+    ap (λ b. cond b [] (Number pmac n ∷ invalidation view.learnt pmac n (newest view.learnt amac)))
+    (any_where_found (λ r. same_pmac r.pmac pmac) (registry view.learnt) last.0)
 only_answers view s (tell.Query asker asker_ip ip) last = refl
 only_answers view s (tell.Members group any) last = refl
 

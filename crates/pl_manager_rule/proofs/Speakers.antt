@@ -1,18 +1,29 @@
 -- With each message the fabric manager hears of no switch but the one that speaks.
-use Rattle.std.proofs.Common.{◌≡◌, ◌⊎◌, ◌||◌, Bool, true, false, cond, List, [], ◌∷◌, ◌++◌, map, Ordering, refl, ap, subst, inl, inr, ◌∙◌, ◌+◌, length}
-use Rattle.std.specs.List.{list_any}
+use Rattle.std.proofs.Common.{◌≡◌, ◌⊎◌, ◌||◌, Bool, true, false, cond, List, [], ◌∷◌, ◌++◌, map, None, Option, Ordering, Some, refl, ap, subst, inl, inr, ◌∙◌, ◌+◌}
+use Rattle.std.specs.List.{find, list_any}
 use Rattle.std.specs.BTreeMap.{insert_entry}
 use Rattle.std.proofs.lemmas.Bool.{cond_both, or_cases, or_left, or_right}
+use Rattle.pl_lemmas.proofs.Exports.{option_map_some}
+use Rattle.pl_frame.specs.declared.address.Mac.{Mac}
 use Rattle.pl_frame.specs.declared.address.SwitchId.{SwitchId}
-use Rattle.pl_layouts.specs.Equality.{same_pmac, same_switch}
+use Rattle.pl_layouts.specs.Equality.{same_switch}
 use Rattle.pl_layouts.proofs.Exports.{switch_itself}
 use Rattle.pl_node.specs.declared.messages.ToManager.{ToManager}
 use Rattle.pl_node.specs.declared.messages.ToManager.TheVariants as tell
-use Rattle.pl_node.specs.ManagerViews.{LearntAddress, ManagerView, Registration, id_cmp, is_heard, link_cmp, members_cmp, numbered, pods_given, speakers, switches, tellers}
+use Rattle.pl_node.specs.ManagerViews.{Learnt, LearntAddress, ManagerView, Registration, id_cmp, is_heard, is_newest_of, link_cmp, members_cmp, newest, pods_given, registered_as, speakers, switches, tellers}
 use Rattle.pl_node.proofs.Exports.{among_append, among_left, among_map, among_mapped, among_ordered, among_right, any_among, IsAmong}
-use Rattle.pl_manager_rule.specs.ManagerRule.{told_again, view_after, with_address, with_asker}
+use Rattle.pl_manager_rule.specs.ManagerRule.{ToldAddress, is_registered, learnt_as, recalled, told_again, view_after, with_address, with_asker}
 use Rattle.pl_manager_rule.proofs.Tables.{among_put}
 use Rattle.pl_manager_rule.proofs.Avoided.{same_is}
+use Rattle.pl_manager_rule.proofs.Learning.{same_field, same_recalled}
+
+found_among : {X : Type 0} (test : X → Bool) (x : X) (xs : List X) → find test xs ≡ Some x → IsAmong x xs
+found_among test x [] h = let none : None ≡ Some x = h in cc
+found_among test x (y ∷ xs) h = by (λ k. found_among test x xs k) (test y) h
+  where
+    by : (find test xs ≡ Some x → IsAmong x xs) → (b : Bool) → cond b (Some y) (find test xs) ≡ Some x → IsAmong x (y ∷ xs)
+    by rest true k = inl cc
+    by rest false k = inr (rest k)
 
 -- ---- lists with one more switch at most
 abbrev IsWithOne : SwitchId → List SwitchId → List SwitchId → Type 0
@@ -44,17 +55,16 @@ asker_ones askers s =
     cond_both (list_any (λ g. same_switch g.switch s) (pods_given askers)) askers (s ∷ askers) (λ xs. IsWithOne s xs askers)
     (λ asked. same_ones s askers) (λ first t h. h)
 
-same_switches : (new : LearntAddress) (addresses : List LearntAddress) → map (λ a. a.switch) (map (told_again new) addresses) ≡ map (λ a. a.switch) addresses
-same_switches new [] = refl
-same_switches new (a ∷ addresses) = ap (λ ss. a.switch ∷ ss) (same_switches new addresses)
-
-address_ones : (addresses : List LearntAddress) (new : LearntAddress) →
-    IsWithOne new.switch (map (λ a. a.switch) (with_address addresses new)) (map (λ a. a.switch) addresses)
-address_ones addresses new =
-    cond_both (list_any (λ r. same_pmac r.pmac new.pmac) (numbered addresses)) (map (told_again new) addresses) (new ∷ addresses)
-    (λ those. IsWithOne new.switch (map (λ a. a.switch) those) (map (λ a. a.switch) addresses))
-    (λ again t h. inr (subst (IsAmong t) (same_switches new addresses) h))
-    (λ first t h. h)
+address_ones : (learnt : Learnt) (new : ToldAddress) →
+    IsWithOne new.switch (map (λ a. a.switch) (with_address learnt new)) (map (λ a. a.switch) learnt.addresses)
+address_ones learnt new =
+    let n = learnt.count + 1 in
+    cond_both (is_registered learnt.addresses new.pmac) (map (told_again new) learnt.addresses)
+    (learnt_as n new ∷ recalled (newest learnt new.amac) new.pmac n learnt.addresses)
+    (λ those. IsWithOne new.switch (map (λ a. a.switch) those) (map (λ a. a.switch) learnt.addresses))
+    (λ again t h. inr (subst (IsAmong t) (same_field (λ a. a.switch) (told_again new) (λ a. refl) learnt.addresses) h))
+    (λ first t h. subst (λ ss. (new.switch ≡ t) ⊎ IsAmong t ss)
+    (same_recalled (λ a. a.switch) (λ old x number a. refl) (newest learnt new.amac) new.pmac n learnt.addresses) h)
 
 -- ---- the switches of which something is known
 module _ (view : ManagerView) (s : SwitchId) where
@@ -90,7 +100,7 @@ module _ (view : ManagerView) (s : SwitchId) where
   speakers_after (tell.Learned pmac amac ip) =
       with_one places links members view.askers _ (same_ones s places)
       (same_ones s links) (same_ones s members) (same_ones s view.askers)
-      (address_ones view.learnt.addresses (record { switch = s; pmac = pmac; amac = amac; ip = ip }))
+      (address_ones view.learnt (record { switch = s; pmac = pmac; amac = amac; ip = ip }))
   speakers_after (tell.Query asker asker_ip ip) = same_ones s (speakers view)
   speakers_after (tell.Members group any) =
       with_one places links _ view.askers learners (same_ones s places)
@@ -124,15 +134,10 @@ pub heard_after : (view : ManagerView) (s t : SwitchId) (says : ToManager) → i
     (same_switch s t || is_heard view t) ≡ true
 heard_after view s t says h = now_or_before view s t (speakers_after view s says t (known_among t (speakers (view_after view s says)) h))
 
--- the switch of a registration told of that address
-pub registered_heard : (addresses : List LearntAddress) (r : Registration) → IsAmong r (numbered addresses) →
-    IsAmong r.switch (map (λ a. a.switch) addresses)
-registered_heard [] r h = absurd h
-registered_heard (a ∷ addresses) r h = by (λ k. registered_heard addresses r k) (list_any (λ q. same_pmac q.pmac a.pmac) (numbered addresses)) h
-  where
-    by : (IsAmong r (numbered addresses) → IsAmong r.switch (map (λ c. c.switch) addresses)) → (b : Bool) →
-        let new : Registration = record { pmac = a.pmac; amac = a.amac; number = length (numbered addresses) + 1; switch = a.switch } in
-        IsAmong r (cond b (numbered addresses) (new ∷ numbered addresses)) → IsAmong r.switch (map (λ c. c.switch) (a ∷ addresses))
-    by rest true k = inr (rest k)
-    by rest false (inl is) = inl (ap (λ q. q.switch) is)
-    by rest false (inr k) = inr (rest k)
+-- the switch that told the newest address of a host
+pub newest_heard : (learnt : Learnt) (amac : Mac) (r : Registration) → newest learnt amac ≡ Some r → IsAmong r.switch (map (λ a. a.switch) learnt.addresses)
+newest_heard learnt amac r is =
+    let found = option_map_some registered_as (find (is_newest_of amac) learnt.addresses) r is in
+    subst (λ t. IsAmong t (map (λ a. a.switch) learnt.addresses)) (ap (λ (q : Registration). q.switch) found.2)
+    (among_mapped (λ (a : LearntAddress). a.switch) found.0 learnt.addresses
+    (found_among (is_newest_of amac) found.0 learnt.addresses found.1))

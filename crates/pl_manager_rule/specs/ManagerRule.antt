@@ -1,7 +1,7 @@
 -- What the fabric manager does when it hears a switch.
-use Rattle.std.specs.Prelude.{◌≡◌, ℕ, ◌+◌, ◌&&◌, not, Bool, true, false, if◌then◌else◌, List, [], ◌∷◌, ◌++◌, length, map, Option, Some, None, unwrap_or}
+use Rattle.std.specs.Prelude.{◌≡◌, ℕ, ◌+◌, ◌&&◌, not, Bool, true, false, if◌then◌else◌, List, [], ◌∷◌, ◌++◌, map, Option, Some, None, unwrap_or}
 use Rattle.std.specs.List.{filter, flat_map, list_any}
-use Rattle.std.specs.Option.{option_or}
+use Rattle.std.specs.Option.{option_map, option_or}
 use Rattle.std.specs.Ordering.{eq_by_cmp}
 use Rattle.std.specs.BTreeMap.{insert_entry}
 use Rattle.std.specs.Cmp.Lexicographic.{pointwise}
@@ -19,7 +19,7 @@ use Rattle.pl_node.specs.declared.messages.ToSwitch.{ToSwitch}
 use Rattle.pl_node.specs.declared.messages.ToSwitch.TheVariants as say
 use Rattle.pl_node.specs.declared.messages.TreePart.{TreePart}
 use Rattle.pl_node.specs.HostViews.{ip_cmp}
-use Rattle.pl_node.specs.ManagerViews.{Told, Learnt, LearntAddress, ManagerView, Registration, id_cmp, ip_of, link_cmp, lookup, members_cmp, newest, numbered, pod_given, pods_given, registry, switches}
+use Rattle.pl_node.specs.ManagerViews.{Told, Learnt, LearntAddress, ManagerView, Registration, id_cmp, ip_of, link_cmp, lookup, members_cmp, newest, pod_given, pods_given, registered_as, registration, registry, switches}
 use Rattle.pl_node.specs.AvoidLists.{avoid_list, avoided_cmp}
 use Rattle.pl_node.specs.Trees.{tree_part}
 use Rattle.pl_node.specs.ManagerDuties.{ManagerRule}
@@ -36,24 +36,58 @@ with_link told s u usable = record told { links = insert_entry link_cmp told.lin
 abbrev pub with_asker : List SwitchId → SwitchId → List SwitchId
 with_asker askers s = if list_any (λ g. same_switch g.switch s) (pods_given askers) then askers else s ∷ askers
 
+-- a switch tells a pseudo address, the actual address of its host, and maybe the IPv4 address
+pub record ToldAddress : Type 0 where
+  pub switch : SwitchId
+  pub pmac : Pmac
+  pub amac : Mac
+  pub ip : Option Ip4
+
 -- the IPv4 address of a pseudo address once it was told with this one
-abbrev pub told_again : LearntAddress → LearntAddress → LearntAddress
+abbrev pub told_again : ToldAddress → LearntAddress → LearntAddress
 told_again new a = record a { ip = if same_pmac a.pmac new.pmac then option_or new.ip a.ip else a.ip }
 
--- An address that was learnt before keeps its place and its host, and takes the IPv4 address where one is told. Another one is the newest.
-abbrev pub with_address : List LearntAddress → LearntAddress → List LearntAddress
-with_address addresses new =
-    if list_any (λ r. same_pmac r.pmac new.pmac) (numbered addresses) then map (told_again new) addresses else new ∷ addresses
+-- an old address leads to a newer one of this number from then on
+abbrev pub leads_on : Pmac → Pmac → ℕ → LearntAddress → LearntAddress
+leads_on old new number a = record a {
+  recall = if same_pmac a.pmac old then Some (record { new = new; number = number }) else a.recall;
+  aged = not (same_pmac a.pmac old) && a.aged;
+}
 
--- with which pseudo address an IPv4 address was told last
-abbrev pub with_owner : List (Ip4 × Pmac) → Option Ip4 → Pmac → List (Ip4 × Pmac)
-with_owner owners None pmac = owners
-with_owner owners (Some ip) pmac = insert_entry ip_cmp owners ip pmac
+abbrev pub recalled : Option Registration → Pmac → ℕ → List LearntAddress → List LearntAddress
+recalled None new number addresses = addresses
+recalled (Some old) new number addresses = map (leads_on old.pmac new number) addresses
+
+abbrev pub is_registered : List LearntAddress → Pmac → Bool
+is_registered addresses x = list_any (λ r. same_pmac r.pmac x) (map registered_as addresses)
+
+abbrev pub learnt_as : ℕ → ToldAddress → LearntAddress
+learnt_as number new =
+    record { switch = new.switch; pmac = new.pmac; amac = new.amac; ip = new.ip; number = number; recall = None; aged = false }
+
+-- An address that was learnt before keeps its place and its host, and takes the IPv4 address where one is told. Another one is the newest: it has
+-- the next number, and the one that was the newest of its host leads to it.
+abbrev pub with_address : Learnt → ToldAddress → List LearntAddress
+with_address learnt new =
+    if is_registered learnt.addresses new.pmac then map (told_again new) learnt.addresses
+    else learnt_as (learnt.count + 1) new ∷ recalled (newest learnt new.amac) new.pmac (learnt.count + 1) learnt.addresses
+
+-- the host of an address: that for which it is registered
+abbrev pub host_of : Learnt → ToldAddress → Mac
+host_of learnt new = unwrap_or (option_map (λ r. r.amac) (registration learnt new.pmac)) new.amac
+
+-- with the pseudo address of which host an IPv4 address was told last
+abbrev pub with_owner : List (Ip4 × Mac) → Option Ip4 → Mac → List (Ip4 × Mac)
+with_owner owners None amac = owners
+with_owner owners (Some ip) amac = insert_entry ip_cmp owners ip amac
 
 -- what was learnt of addresses once this is told
-abbrev pub with_learnt : Learnt → LearntAddress → Learnt
-with_learnt learnt new =
-    record { addresses = with_address learnt.addresses new; owners = with_owner learnt.owners new.ip new.pmac }
+abbrev pub with_learnt : Learnt → ToldAddress → Learnt
+with_learnt learnt new = record {
+  addresses = with_address learnt new;
+  owners = with_owner learnt.owners new.ip (host_of learnt new);
+  count = if is_registered learnt.addresses new.pmac then learnt.count else learnt.count + 1;
+}
 
 -- the view once this was told: a later word takes the place of the one before, and a question leaves no trace
 abbrev pub view_after : ManagerView → SwitchId → ToManager → ManagerView
@@ -76,7 +110,7 @@ invalidation learnt new number (Some old) =
 abbrev pub learning : Learnt → Learnt → Pmac → Mac → List ManagerAct
 learning before after pmac amac =
     if list_any (λ r. same_pmac r.pmac pmac) (registry before) then []
-    else Number pmac (length (registry before) + 1) ∷ invalidation after pmac (length (registry before) + 1) (newest before amac)
+    else Number pmac (before.count + 1) ∷ invalidation after pmac (before.count + 1) (newest before amac)
 
 -- a question is answered with the address that it finds; where it finds none, all hosts are to be asked
 abbrev pub answer_to : Pmac → Ip4 → Ip4 → Option Pmac → ToSwitch

@@ -1,5 +1,5 @@
 -- A word that the manager knows already: it is just what was told last of the same thing.
-use Rattle.std.specs.Prelude.{◌≡◌, List, [], ◌∷◌, map, Option, Some, None, unwrap_or, IsSome}
+use Rattle.std.specs.Prelude.{◌≡◌, List, [], ◌∷◌, map, Option, Some, None, option_map, unwrap_or, IsSome}
 use Rattle.std.specs.List.{IsDistinct}
 use Rattle.std.specs.List.Sorted.{IsStrictlySortedBy}
 use Rattle.std.specs.Map.{keys_of}
@@ -13,7 +13,7 @@ use Rattle.pl_node.specs.declared.messages.ToManager.{ToManager}
 use Rattle.pl_node.specs.declared.messages.ToManager.TheVariants as tell
 use Rattle.pl_node.specs.declared.messages.ToSwitch.TheVariants as say
 use Rattle.pl_node.specs.HostViews.{ip_cmp}
-use Rattle.pl_node.specs.ManagerViews.{Learnt, ManagerView, id_cmp, ip_of, link_cmp, lookup, members_cmp, pod_given, registration, told_with, value_at}
+use Rattle.pl_node.specs.ManagerViews.{Learnt, ManagerView, id_cmp, ip_of, link_cmp, lookup, members_cmp, pod_given, owner, registration, value_at}
 use Rattle.pl_manager_rule.specs.ManagerRule.{answer_to}
 
 -- Each table rises by its keys, and each asker and each address is there once: so two views that say the same are the same.
@@ -25,10 +25,10 @@ pub record TablesAreInOrder (view : ManagerView) : Type 0 where
   pub addresses : IsDistinct same_pmac (map (λ a. a.pmac) view.learnt.addresses)
   pub owners : IsStrictlySortedBy ip_cmp (keys_of view.learnt.owners)
 
--- the IPv4 address was told last with this pseudo address, and none was told later with it; none says nothing
+-- the IPv4 address was told last with this pseudo address, and its owner is the host of that; none says nothing
 abbrev pub IsKnownAddress : Learnt → Pmac → Option Ip4 → Type 0
 IsKnownAddress learnt pmac None = Unit {0}
-IsKnownAddress learnt pmac (Some ip) = (ip_of learnt pmac ≡ Some ip) × (told_with learnt ip ≡ Some pmac)
+IsKnownAddress learnt pmac (Some ip) = (ip_of learnt pmac ≡ Some ip) × (owner learnt ip ≡ option_map (λ r. r.amac) (registration learnt pmac))
 
 -- This is what the switch told last of that place, link or group; it asked for a pod; or the address is known, with that IPv4 address.
 -- A question tells nothing.

@@ -1,15 +1,17 @@
-ghost use Rattle.std.specs.Prelude.{◌≡◌, ◌↔◌, ℕ, List, Contains, reverse, length, map, Option, IfSome, IsSome, IsTrue};
+ghost use Rattle.std.specs.Prelude.{◌≡◌, ◌↔◌, ℕ, List, Contains, reverse, find, length, map, Option, option_map, IfSome, IsSome, IsTrue};
 ghost use Rattle.std.specs.List.{IsDistinct, range_with_len};
 ghost use Rattle.std.specs.List.Sorted.{IsStrictlySortedBy};
+ghost use Rattle.std.specs.Option.{option_and_then};
 ghost use Rattle.std.specs.Ordering.{nat_cmp};
 ghost use Rattle.pl_frame.specs.declared.address.SwitchId.{SwitchId};
 ghost use Rattle.pl_node.specs.declared.messages.TreePart.{TreePart};
-ghost use Rattle.pl_layouts.specs.Equality.{same_pmac, same_switch};
-ghost use Rattle.pl_node.specs.ManagerViews.{Learnt, ManagerView, Members, Told, alive_at_level, booted_manager, id_cmp, ip_of, link_cmp, members_cmp, neighbours, pod_given, pods_given, registry, switches, told_with, value_at};
+ghost use Rattle.pl_layouts.specs.Equality.{same_mac, same_pmac, same_switch};
+ghost use Rattle.pl_node.specs.ManagerViews.{ManagerView, Members, Told, alive_at_level, booted_manager, id_cmp, ip_of, link_cmp, members_cmp, neighbours, newest, owner, pod_given, pods_given, registration, registry, switches, value_at};
 ghost use Rattle.pl_node.specs.AvoidLists.{Avoids, avoid_list, avoided_cmp};
 ghost use Rattle.pl_node.specs.Trees.{needed_edges, tree_part};
 ghost use Rattle.pl_manager_rule.specs.ManagerRule.{manager_hears, manager_rule, same_avoid_list, same_part, with_asker};
 ghost use Rattle.pl_frame.specs.declared.address.Ip4.{Ip4};
+ghost use Rattle.pl_frame.specs.declared.address.Mac.{Mac};
 ghost use Rattle.pl_pmac.specs.declared.pmac.Pmac.{Pmac};
 ghost use Rattle.pl_manager_rule.specs.Histories.{Word, ip_said, known, link_said, members_said, owner_said, place_said, pods_asked, registered, said_by, said_last};
 ghost use Rattle.pl_manager_rule.specs.Repeats.{HasToldLast, TablesAreInOrder, answers};
@@ -50,9 +52,9 @@ pub fn a_change_is_seen()
 /// Addresses have the numbers 1, 2, 3 and so on in the order in which they were first learnt, each
 /// address once.
 pub fn addresses_are_numbered_in_order()
-    ensures numbers { (learnt : Learnt) → reverse (map (λ r. r.number) (registry learnt))
-        ≡ range_with_len 1 (length (registry learnt)) }
-    ensures once { (learnt : Learnt) → IsDistinct same_pmac (map (λ r. r.pmac) (registry learnt)) }
+    ensures numbers { (k : ℕ) (words : List Word) → reverse (map (λ r. r.number) (registry (known k words).learnt))
+        ≡ range_with_len 1 (known k words).learnt.count }
+    ensures once { (k : ℕ) (words : List Word) → IsDistinct same_pmac (map (λ r. r.pmac) (registry (known k words).learnt)) }
 {}
 
 /// Pods have the numbers 0, 1, 2 and so on in the order in which switches first asked, each switch
@@ -87,7 +89,8 @@ pub fn a_repeated_word_changes_nothing()
 {}
 
 /// What the manager knows, however long its history, is the last that was said of each place, link, group and
-/// IPv4 address; and the pods and the addresses, in the order of first asking and of first telling.
+/// IPv4 address, whose owner is the host of the address with which it was told last; the pods and the addresses, in
+/// the order of first asking and of first telling; and the address of each host that was told last for the first time.
 pub fn what_is_known_is_what_was_told_last()
     ensures places { (k : ℕ) (words : List Word) (s : SwitchId) →
         value_at id_cmp (known k words).told.places s ≡ said_last (said_by s place_said) words }
@@ -97,8 +100,11 @@ pub fn what_is_known_is_what_was_told_last()
         value_at members_cmp (known k words).members (s, group) ≡ said_last (said_by s (members_said group)) words }
     ensures pods { (k : ℕ) (words : List Word) → pods_given (known k words).askers ≡ pods_asked words }
     ensures registrations { (k : ℕ) (words : List Word) → registry (known k words).learnt ≡ registered words }
+    ensures newest { (k : ℕ) (words : List Word) (amac : Mac) →
+        newest (known k words).learnt amac ≡ find (λ r. same_mac r.amac amac) (registered words) }
     ensures ips { (k : ℕ) (words : List Word) (x : Pmac) →
         ip_of (known k words).learnt x ≡ said_last (λ w. ip_said x w.says) words }
     ensures owners { (k : ℕ) (words : List Word) (ip : Ip4) →
-        told_with (known k words).learnt ip ≡ said_last (λ w. owner_said ip w.says) words }
+        owner (known k words).learnt ip
+        ≡ option_map (λ r. r.amac) (option_and_then (registration (known k words).learnt) (said_last (λ w. owner_said ip w.says) words)) }
 {}

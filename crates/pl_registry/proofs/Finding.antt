@@ -1,22 +1,28 @@
 -- Addresses by what finds them.
-use Rattle.std.proofs.Common.{◌≡◌, ◌+◌, Bool, true, false, cond, List, [], ◌∷◌, ◌++◌, length, map, reverse, Option, Some, None, is_some, refl, sym, ap, ◌∙◌, subst, arith}
+use Rattle.std.proofs.Common.{◌≡◌, ◌+◌, ◌&&◌, ◌||◌, not, ℕ, Bool, true, false, cond, List, [], ◌∷◌, ◌++◌, length, map, reverse, Option, Some, None, is_some, refl, sym, ap, ◌∙◌, subst}
 use Rattle.std.specs.List.{AllByRecursion, IsDistinct, find, list_any}
 use Rattle.std.specs.Option.{option_map, option_or}
 use Rattle.std.specs.Map.{keys_of, lookup}
+use Rattle.std.proofs.lemmas.Bool.{false≢true, or_right}
+use Rattle.std.proofs.lemmas.List.{length-map, length-reverse, reverse-append}
+use Rattle.std.proofs.lemmas.List.Sorted.{IsPermutation-reverse}
+use Rattle.std.proofs.lemmas.Map.Keys.{IsDistinct-IsPermutation}
 use Rattle.indexmap.specs.IndexMap.{insert_entry}
 use Rattle.indexmap.proofs.ReorderLemmas.{map-reverse}
-use Rattle.pl_lemmas.proofs.Exports.{is_some-option_map, none_of}
+use Rattle.pl_lemmas.proofs.Exports.{is_some-option_map, none_of, option_map_some, option_or_none}
 use Rattle.pl_frame.specs.declared.address.Mac.{Mac}
 use Rattle.pl_pmac.specs.declared.pmac.Pmac.{Pmac}
 use Rattle.pl_pmac.specs.contracts.pmac.PmacPartialEq.TheImpl.{eq-value}
 use Rattle.pl_layouts.specs.Equality.{same_mac, same_pmac}
-use Rattle.pl_layouts.proofs.Exports.{pmac_is}
-use Rattle.pl_node.specs.ManagerViews.{LearntAddress, Registration, numbered}
-use Rattle.pl_manager_rule.specs.ManagerRule.{told_again, with_address}
-use Rattle.pl_manager_rule.proofs.Exports.{pmac_turned, same_numbers}
+use Rattle.pl_layouts.proofs.Exports.{pmac_is, pmac_itself}
+use Rattle.pl_node.specs.ManagerViews.{LearntAddress, Registration, is_newest_of, newest, registered_as}
+use Rattle.pl_manager_rule.specs.ManagerRule.{is_registered, leads_on, learnt_as, recalled, told_again, with_address}
+use Rattle.pl_manager_rule.proofs.Exports.{any_registered, find_mapped, newest_again, others_recalled, pmac_turned}
 use Rattle.pl_registry.specs.declared.addresses.Known.{Known}
+use Rattle.pl_registry.specs.declared.addresses.Recall.{Recall}
 use Rattle.pl_registry.specs.declared.addresses.Registered.{Registered}
-use Rattle.pl_registry.specs.Addresses.{FindAddresses, learnt_at, newest_first, registration_of}
+use Rattle.pl_registry.specs.declared.addresses.Told.{Told}
+use Rattle.pl_registry.specs.Addresses.{FindAddresses, IsLed, IsLedFrom, learnt_at, learnt_of, newest_first, recall_of, registration_of, told_at}
 use Rattle.pl_registry.proofs.Keys.{keys_are}
 use Rattle.pl_registry.proofs.Asking.{any_found, last_first}
 
@@ -26,7 +32,7 @@ Table = List (Pmac × Known)
 abbrev pub Latest : Type 0
 Latest = List (Mac × Registered)
 
-abbrev learnt_entry : Pmac × Known → LearntAddress
+abbrev pub learnt_entry : Pmac × Known → LearntAddress
 learnt_entry e = learnt_at e.0 e.1
 
 -- how the table compares its keys
@@ -36,24 +42,82 @@ looked_up x known = ap (λ same. lookup (same x) known) keys_are
 pub put_in : (x : Pmac) (told : Known) (known : Table) → insert_entry eq-value.it known x told ≡ insert_entry same_pmac known x told
 put_in x told known = ap (λ same. insert_entry same known x told) keys_are
 
-pub updated : (known after : Table) (x : Pmac) (told : Known) →
-    ((y : Pmac) → lookup (eq-value.it y) after ≡ cond (eq-value.it x y) (Some told) (lookup (eq-value.it y) known)) →
-    (y : Pmac) → lookup (same_pmac y) after ≡ cond (same_pmac x y) (Some told) (lookup (same_pmac y) known)
-updated known after x told says =
-    subst (λ (same : Pmac → Pmac → Bool). (y : Pmac) → lookup (same y) after ≡ cond (same x y) (Some told) (lookup (same y) known)) keys_are says
+pub each_once : (known : Table) → IsDistinct eq-value.it (keys_of known) → IsDistinct same_pmac (keys_of known)
+each_once known once = subst (λ (same : Pmac → Pmac → Bool). IsDistinct same (keys_of known)) keys_are once
+
+-- ---- a table whose keys are there once each
+-- a key that is not there
+absent : (x : Pmac) (es : Table) → AllByRecursion (λ k. same_pmac x k ≡ false) (keys_of es) → lookup (same_pmac x) es ≡ None
+absent x [] all = refl
+absent x (e ∷ es) all = ap (λ b. cond b (Some e.1) (lookup (same_pmac x) es)) all.0 ∙ absent x es all.1
+
+find_push : {X : Type 0} (test : X → Bool) (xs : List X) (x : X) → find test (xs ++ x ∷ []) ≡ option_or (find test xs) (cond (test x) (Some x) None)
+find_push test [] x = refl
+find_push test (y ∷ xs) x = by (test y) (find_push test xs x)
+  where
+    by : (b : Bool) → find test (xs ++ x ∷ []) ≡ option_or (find test xs) (cond (test x) (Some x) None) →
+        cond b (Some y) (find test (xs ++ x ∷ [])) ≡ option_or (cond b (Some y) (find test xs)) (cond (test x) (Some x) None)
+    by true rest = refl
+    by false rest = rest
+
+-- what is known of an address is found in the list
+pub found_at : (y : Pmac) (known : Table) → IsDistinct same_pmac (keys_of known) →
+    find (λ a. same_pmac a.pmac y) (newest_first known) ≡ option_map (learnt_at y) (lookup (same_pmac y) known)
+unfolding IsDistinct
+found_at y [] once = refl
+found_at y (e ∷ es) once =
+    ap (find (λ (a : LearntAddress). same_pmac a.pmac y)) (reverse-append (learnt_entry e ∷ []) (map learnt_entry es))
+    ∙ find_push (λ (a : LearntAddress). same_pmac a.pmac y) (newest_first es) (learnt_entry e)
+    ∙ ap (λ o. option_or o (cond (same_pmac e.0 y) (Some (learnt_entry e)) None)) (found_at y es once.1)
+    ∙ by (same_pmac e.0 y) refl
+  where
+    by : (b : Bool) → same_pmac e.0 y ≡ b → option_or (option_map (learnt_at y) (lookup (same_pmac y) es)) (cond b (Some (learnt_entry e)) None)
+        ≡ option_map (learnt_at y) (cond (same_pmac y e.0) (Some e.1) (lookup (same_pmac y) es))
+    by true same =
+        let key : e.0 ≡ y = pmac_is e.0 y same in
+        let none : lookup (same_pmac y) es ≡ None = subst (λ z. lookup (same_pmac z) es ≡ None) key (absent e.0 es once.0) in
+        ap (λ o. option_or (option_map (learnt_at y) o) (Some (learnt_entry e))) none ∙ ap (λ z. Some (learnt_at z e.1)) key
+        ∙ sym (ap (λ b. option_map (learnt_at y) (cond b (Some e.1) (lookup (same_pmac y) es))) (pmac_turned y e.0 ∙ same))
+    by false other =
+        option_or_none (option_map (learnt_at y) (lookup (same_pmac y) es))
+        ∙ sym (ap (λ b. option_map (learnt_at y) (cond b (Some e.1) (lookup (same_pmac y) es))) (pmac_turned y e.0 ∙ other))
+
+pmacs_are : (es : Table) → map (λ a. a.pmac) (map learnt_entry es) ≡ keys_of es
+pmacs_are [] = refl
+pmacs_are (e ∷ es) = ap (λ ks. e.0 ∷ ks) (pmacs_are es)
+
+pub listed_once : (known : Table) → IsDistinct same_pmac (keys_of known) → IsDistinct same_pmac (map (λ a. a.pmac) (newest_first known))
+listed_once known once =
+    subst (IsDistinct same_pmac) (sym (map-reverse (λ (a : LearntAddress). a.pmac) (map learnt_entry known) ∙ ap reverse (pmacs_are known)))
+    (IsDistinct-IsPermutation same_pmac pmac_turned (keys_of known) (reverse (keys_of known)) (IsPermutation-reverse (keys_of known)) once)
+
+-- as many are in the list as in the table
+pub as_many : (known : Table) → length (newest_first known) ≡ length known
+as_many known = length-reverse (map learnt_entry known) ∙ length-map known learnt_entry
 
 -- an address is registered where something is known of it
-pub registered_where_known : (addresses : List LearntAddress) (known : Table) (latest : Latest) (x : Pmac) → FindAddresses addresses known latest →
-    list_any (λ r. same_pmac r.pmac x) (numbered addresses) ≡ is_some (lookup (same_pmac x) known)
-registered_where_known addresses known latest x found =
-    any_found (λ r. same_pmac r.pmac x) (numbered addresses)
-    ∙ sym (is_some-option_map (λ r. r.amac) (find (λ r. same_pmac r.pmac x) (numbered addresses))) ∙ ap is_some (found.host x)
-    ∙ is_some-option_map (λ k. k.amac) (lookup (same_pmac x) known)
+pub registered_where_known : (known : Table) (x : Pmac) → IsDistinct same_pmac (keys_of known) →
+    is_registered (newest_first known) x ≡ is_some (lookup (same_pmac x) known)
+registered_where_known known x once =
+    sym (any_registered (newest_first known) x) ∙ any_found (λ a. same_pmac a.pmac x) (newest_first known)
+    ∙ ap is_some (found_at x known once) ∙ is_some-option_map (learnt_at x) (lookup (same_pmac x) known)
 
-pub unknown_where_not_registered : (addresses : List LearntAddress) (known : Table) (latest : Latest) (x : Pmac) → FindAddresses addresses known latest →
-    list_any (λ r. same_pmac r.pmac x) (numbered addresses) ≡ false → lookup (same_pmac x) known ≡ None
-unknown_where_not_registered addresses known latest x found none =
-    none_of (lookup (same_pmac x) known) (sym (registered_where_known addresses known latest x found) ∙ none)
+pub unknown_where_not_registered : (known : Table) (x : Pmac) → IsDistinct same_pmac (keys_of known) →
+    is_registered (newest_first known) x ≡ false → lookup (same_pmac x) known ≡ None
+unknown_where_not_registered known x once none = none_of (lookup (same_pmac x) known) (sym (registered_where_known known x once) ∙ none)
+
+-- what is registered of it
+pub host_found : (known : Table) (x : Pmac) → IsDistinct same_pmac (keys_of known) →
+    option_map (λ (r : Registration). r.amac) (find (λ r. same_pmac r.pmac x) (map registered_as (newest_first known)))
+    ≡ option_map (λ (k : Known). k.amac) (lookup (same_pmac x) known)
+host_found known x once =
+    ap (option_map (λ (r : Registration). r.amac))
+    (find_mapped (λ (r : Registration). same_pmac r.pmac x) registered_as (newest_first known) ∙ ap (option_map registered_as) (found_at x known once))
+    ∙ by (lookup (same_pmac x) known)
+  where
+    by : (o : Option Known) → option_map (λ (r : Registration). r.amac) (option_map registered_as (option_map (learnt_at x) o)) ≡ option_map (λ (k : Known). k.amac) o
+    by None = refl
+    by (Some k) = refl
 
 -- ---- a new address
 put_last : (x : Pmac) (told : Known) (es : Table) → lookup (same_pmac x) es ≡ None → insert_entry same_pmac es x told ≡ es ++ (x, told) ∷ []
@@ -65,145 +129,172 @@ put_last x told (e ∷ es) h = by (λ j. put_last x told es j) (same_pmac x e.0)
     by rest true j = absurd (cc)
     by rest false j = ap (λ fs. e ∷ fs) (rest j)
 
-pub newest_added : (before after : Table) (x : Pmac) (told : Known) → lookup (same_pmac x) before ≡ None →
+newest_added : (before after : Table) (x : Pmac) (told : Known) → lookup (same_pmac x) before ≡ None →
     after ≡ insert_entry same_pmac before x told → newest_first after ≡ learnt_at x told ∷ newest_first before
 newest_added before after x told none entries =
     ap newest_first (entries ∙ put_last x told before none) ∙ last_first learnt_entry before (x, told)
 
-module _ (addresses : List LearntAddress) (known known_after : Table) (latest latest_after : Latest) (x : Pmac) (told : Known) (r : Registered)
-    (found : FindAddresses addresses known latest) (none : list_any (λ r. same_pmac r.pmac x) (numbered addresses) ≡ false)
-    (is : registration_of r ≡ record { pmac = x; amac = told.amac; number = length known + 1; switch = told.switch }) where
-  abbrev first : Registration
-  first = record { pmac = x; amac = told.amac; number = length (numbered addresses) + 1; switch = told.switch }
+-- ---- a change of what is known of one address
+pub record ChangesTo (x : Pmac) (old new : Known) (change : LearntAddress → LearntAddress) : Type 0 where
+  pub same : change (learnt_at x old) ≡ learnt_at x new
+  pub other : (y : Pmac) (k : Known) → same_pmac y x ≡ false → change (learnt_at y k) ≡ learnt_at y k
 
-  one_registered : numbered (learnt_at x told ∷ addresses) ≡ first ∷ numbered addresses
-  one_registered = ap (λ b. cond b (numbered addresses) (first ∷ numbered addresses)) none
-
-  is_first : first ≡ registration_of r
-  is_first = ap (λ n. let q : Registration = record { pmac = x; amac = told.amac; number = n + 1; switch = told.switch } in q) found.many ∙ sym is
-
-  pub found_more : ((y : Pmac) → lookup (same_pmac y) known_after ≡ cond (same_pmac x y) (Some told) (lookup (same_pmac y) known)) →
-      length known_after ≡ length known + 1 →
-      ((mac : Mac) → lookup (same_mac mac) latest_after ≡ cond (same_mac told.amac mac) (Some r) (lookup (same_mac mac) latest)) →
-      FindAddresses (learnt_at x told ∷ addresses) known_after latest_after
-  found_more knows longer names = record {
-    address = λ y. at y (same_pmac x y) refl ∙ ap (option_map (learnt_at y)) (sym (knows y));
-    host = λ y. ap (λ rs. option_map (λ (q : Registration). q.amac) (find (λ q. same_pmac q.pmac y) rs)) one_registered
-        ∙ host_at y (same_pmac x y) ∙ ap (option_map (λ k. k.amac)) (sym (knows y));
-    newest = λ mac. ap (find (λ q. same_mac q.amac mac)) one_registered ∙ newest_at mac (same_mac told.amac mac)
-        ∙ ap (option_map registration_of) (sym (names mac));
-    many = ap length one_registered ∙ omega (arith, found.many, longer);
-  }
-    where
-      at : (y : Pmac) (b : Bool) → same_pmac x y ≡ b → cond b (Some (learnt_at x told)) (find (λ a. same_pmac a.pmac y) addresses)
-          ≡ option_map (learnt_at y) (cond b (Some told) (lookup (same_pmac y) known))
-      at y true same = ap (λ z. Some (learnt_at z told)) (pmac_is x y same)
-      at y false same = found.address y
-
-      host_at : (y : Pmac) (b : Bool) → option_map (λ (q : Registration). q.amac) (cond b (Some first) (find (λ q. same_pmac q.pmac y) (numbered addresses)))
-          ≡ option_map (λ k. k.amac) (cond b (Some told) (lookup (same_pmac y) known))
-      host_at y true = refl
-      host_at y false = found.host y
-
-      newest_at : (mac : Mac) (b : Bool) → cond b (Some first) (find (λ q. same_mac q.amac mac) (numbered addresses))
-          ≡ option_map registration_of (cond b (Some r) (lookup (same_mac mac) latest))
-      newest_at mac true = ap Some is_first
-      newest_at mac false = found.newest mac
-
--- ---- an address that is told again
-abbrev pub told_ip : Known → Known → Known
+-- it takes the IPv4 address that is told
+abbrev pub told_ip : Told → Known → Known
 told_ip told known = record known { ip = option_or told.ip known.ip }
 
--- addresses that are not this one stay as they were
-others_stay : (x : Pmac) (told : Known) (es : Table) → AllByRecursion (λ y. same_pmac x y ≡ false) (keys_of es) →
-    map learnt_entry es ≡ map (told_again (learnt_at x told)) (map learnt_entry es)
-others_stay x told [] all = refl
-others_stay x told (e ∷ es) all =
-    let other : same_pmac e.0 x ≡ false = pmac_turned e.0 x ∙ all.0 in
-    (λ i. record (learnt_entry e) { ip = cond (sym other i) (option_or told.ip e.1.ip) e.1.ip } ∷ others_stay x told es all.1 i)
+told_changes : (x : Pmac) (told : Told) (k : Known) → ChangesTo x k (told_ip told k) (told_again (told_at x told))
+told_changes x told k = record {
+  same = λ i. record (learnt_at x k) { ip = cond (pmac_itself x i) (option_or told.ip k.ip) k.ip };
+  other = λ y v apart i. record (learnt_at y v) { ip = cond (apart i) (option_or told.ip v.ip) v.ip };
+}
 
-in_table : (x : Pmac) (told k : Known) (es : Table) → IsDistinct same_pmac (keys_of es) → lookup (same_pmac x) es ≡ Some k →
-    map learnt_entry (insert_entry same_pmac es x (told_ip told k)) ≡ map (told_again (learnt_at x told)) (map learnt_entry es)
-unfolding IsDistinct
-in_table x told k [] once h = let none : None ≡ Some k = h in absurd (cc)
-in_table x told k (e ∷ es) once h = by (λ j. in_table x told k es once.1 j) (same_pmac x e.0) refl h
-  where
-    by : (lookup (same_pmac x) es ≡ Some k →
-        map learnt_entry (insert_entry same_pmac es x (told_ip told k)) ≡ map (told_again (learnt_at x told)) (map learnt_entry es)) →
-        (b : Bool) → same_pmac x e.0 ≡ b → cond b (Some e.1) (lookup (same_pmac x) es) ≡ Some k →
-        map learnt_entry (cond b ((e.0, told_ip told k) ∷ es) (e ∷ insert_entry same_pmac es x (told_ip told k)))
-        ≡ map (told_again (learnt_at x told)) (map learnt_entry (e ∷ es))
-    by rest true same j =
-        let turned : same_pmac e.0 x ≡ true = pmac_turned e.0 x ∙ same in
-        let value : k ≡ e.1 = cc in
-        let key : e.0 ≡ x = sym (pmac_is x e.0 same) in
-        let others : AllByRecursion (λ y. same_pmac x y ≡ false) (keys_of es) = subst (λ z. AllByRecursion (λ y. same_pmac z y ≡ false) (keys_of es)) key once.0 in
-        ap (λ v. learnt_at e.0 (told_ip told v) ∷ map learnt_entry es) value
-        ∙ (λ i. record (learnt_entry e) { ip = cond (sym turned i) (option_or told.ip e.1.ip) e.1.ip } ∷ others_stay x told es others i)
-    by rest false same j =
-        let other : same_pmac e.0 x ≡ false = pmac_turned e.0 x ∙ same in
-        (λ i. record (learnt_entry e) { ip = cond (sym other i) (option_or told.ip e.1.ip) e.1.ip } ∷ rest j i)
+-- it leads on
+abbrev pub led_to : Recall → Known → Known
+led_to to known = record known { recall = Some to; aged = false }
 
-found_again : (new : LearntAddress) (y : Pmac) (addresses : List LearntAddress) →
-    find (λ a. same_pmac a.pmac y) (map (told_again new) addresses) ≡ option_map (told_again new) (find (λ a. same_pmac a.pmac y) addresses)
-found_again new y [] = refl
-found_again new y (a ∷ addresses) = by (found_again new y addresses) (same_pmac a.pmac y)
-  where
-    by : find (λ c. same_pmac c.pmac y) (map (told_again new) addresses) ≡ option_map (told_again new) (find (λ c. same_pmac c.pmac y) addresses) →
-        (b : Bool) → cond b (Some (told_again new a)) (find (λ c. same_pmac c.pmac y) (map (told_again new) addresses))
-        ≡ option_map (told_again new) (cond b (Some a) (find (λ c. same_pmac c.pmac y) addresses))
-    by rest true = refl
-    by rest false = rest
+led_changes : (x : Pmac) (to : Recall) (k : Known) → ChangesTo x k (led_to to k) (leads_on x to.new to.number)
+led_changes x to k = record {
+  same = λ i. record (learnt_at x k) { recall = cond (pmac_itself x i) (Some (recall_of to)) (option_map recall_of k.recall); aged = not (pmac_itself x i) && k.aged };
+  other = λ y v apart i. record (learnt_at y v) { recall = cond (apart i) (Some (recall_of to)) (option_map recall_of v.recall); aged = not (apart i) && v.aged };
+}
 
-module _ (known known_after : Table) (latest : Latest) (x : Pmac) (told k : Known)
-    (found : FindAddresses (newest_first known) known latest) (once : IsDistinct same_pmac (keys_of known))
-    (there : lookup (same_pmac x) known ≡ Some k) (entries : known_after ≡ insert_entry same_pmac known x (told_ip told k)) where
-  abbrev new : LearntAddress
-  new = learnt_at x told
+module _ (x : Pmac) (old new : Known) (change : LearntAddress → LearntAddress) (changes : ChangesTo x old new change) where
+  others_stay : (es : Table) → AllByRecursion (λ y. same_pmac x y ≡ false) (keys_of es) → map change (map learnt_entry es) ≡ map learnt_entry es
+  others_stay [] all = refl
+  others_stay (e ∷ es) all = λ i. changes.other e.0 e.1 (pmac_turned e.0 x ∙ all.0) i ∷ others_stay es all.1 i
 
-  learnt_again : newest_first known_after ≡ map (told_again new) (newest_first known)
-  learnt_again =
-      ap newest_first entries ∙ ap reverse (in_table x told k known once there)
-      ∙ sym (map-reverse (told_again new) (map learnt_entry known))
-
-  pub is_with_address : newest_first known_after ≡ with_address (newest_first known) new
-  is_with_address =
-      learnt_again
-      ∙ sym (ap (λ b. cond b (map (told_again new) (newest_first known)) (new ∷ newest_first known))
-      (registered_where_known (newest_first known) known latest x found ∙ ap is_some there))
-
-  same_registrations : numbered (newest_first known_after) ≡ numbered (newest_first known)
-  same_registrations = ap numbered learnt_again ∙ same_numbers new (newest_first known)
-
-  pub found_still : ((y : Pmac) → lookup (same_pmac y) known_after ≡ cond (same_pmac x y) (Some (told_ip told k)) (lookup (same_pmac y) known)) →
-      length known_after ≡ length known → FindAddresses (newest_first known_after) known_after latest
-  found_still knows long = record {
-    address = λ y. ap (find (λ a. same_pmac a.pmac y)) learnt_again ∙ found_again new y (newest_first known)
-        ∙ ap (option_map (told_again new)) (found.address y)
-        ∙ at y (same_pmac x y) refl (lookup (same_pmac y) known) refl ∙ ap (option_map (learnt_at y)) (sym (knows y));
-    host = λ y. ap (λ rs. option_map (λ (q : Registration). q.amac) (find (λ q. same_pmac q.pmac y) rs)) same_registrations ∙ found.host y
-        ∙ host_at y (same_pmac x y) refl ∙ ap (option_map (λ k. k.amac)) (sym (knows y));
-    newest = λ mac. ap (find (λ q. same_mac q.amac mac)) same_registrations ∙ found.newest mac;
-    many = ap length same_registrations ∙ found.many ∙ sym long;
-  }
+  in_table : (es : Table) → IsDistinct same_pmac (keys_of es) → lookup (same_pmac x) es ≡ Some old →
+      map learnt_entry (insert_entry same_pmac es x new) ≡ map change (map learnt_entry es)
+  unfolding IsDistinct
+  in_table [] once h = let none : None ≡ Some old = h in absurd (cc)
+  in_table (e ∷ es) once h = by (λ j. in_table es once.1 j) (same_pmac x e.0) refl h
     where
-      at : (y : Pmac) (b : Bool) → same_pmac x y ≡ b → (o : Option Known) → lookup (same_pmac y) known ≡ o →
-          option_map (told_again new) (option_map (learnt_at y) o) ≡ option_map (learnt_at y) (cond b (Some (told_ip told k)) o)
-      at y true same None e =
-          let here : lookup (same_pmac y) known ≡ Some k = ap (λ z. lookup (same_pmac z) known) (sym (pmac_is x y same)) ∙ there in absurd (cc)
-      at y true same (Some v) e =
-          let here : lookup (same_pmac y) known ≡ Some k = ap (λ z. lookup (same_pmac z) known) (sym (pmac_is x y same)) ∙ there in
-          let both : Some v ≡ Some k = sym e ∙ here in
-          let value : v ≡ k = cc in
-          let turned : same_pmac y x ≡ true = pmac_turned y x ∙ same in
-          (λ i. Some (record (learnt_at y v) { ip = cond (turned i) (option_or told.ip v.ip) v.ip }))
-          ∙ ap (λ w. Some (learnt_at y (told_ip told w))) value
-      at y false same None e = refl
-      at y false same (Some v) e =
-          let turned : same_pmac y x ≡ false = pmac_turned y x ∙ same in
-          λ i. Some (record (learnt_at y v) { ip = cond (turned i) (option_or told.ip v.ip) v.ip })
+      by : (lookup (same_pmac x) es ≡ Some old → map learnt_entry (insert_entry same_pmac es x new) ≡ map change (map learnt_entry es)) →
+          (b : Bool) → same_pmac x e.0 ≡ b → cond b (Some e.1) (lookup (same_pmac x) es) ≡ Some old →
+          map learnt_entry (cond b ((e.0, new) ∷ es) (e ∷ insert_entry same_pmac es x new)) ≡ map change (map learnt_entry (e ∷ es))
+      by rest true same j =
+          let value : e.1 ≡ old = cc in
+          let key : e.0 ≡ x = sym (pmac_is x e.0 same) in
+          let others : AllByRecursion (λ y. same_pmac x y ≡ false) (keys_of es) = subst (λ z. AllByRecursion (λ y. same_pmac z y ≡ false) (keys_of es)) key once.0 in
+          let here : change (learnt_at e.0 e.1) ≡ learnt_at e.0 new =
+          (λ i. change (learnt_at (key i) (value i))) ∙ changes.same ∙ ap (λ z. learnt_at z new) (sym key) in
+          λ i. sym here i ∷ sym (others_stay es others) i
+      by rest false same j = λ i. sym (changes.other e.0 e.1 (pmac_turned e.0 x ∙ same)) i ∷ rest j i
 
-      host_at : (y : Pmac) (b : Bool) → same_pmac x y ≡ b → option_map (λ k. k.amac) (lookup (same_pmac y) known)
-          ≡ option_map (λ k. k.amac) (cond b (Some (told_ip told k)) (lookup (same_pmac y) known))
-      host_at y true same = ap (option_map (λ k. k.amac)) (ap (λ z. lookup (same_pmac z) known) (sym (pmac_is x y same)) ∙ there)
-      host_at y false same = refl
+  pub list_changed : (known : Table) → IsDistinct same_pmac (keys_of known) → lookup (same_pmac x) known ≡ Some old →
+      newest_first (insert_entry same_pmac known x new) ≡ map change (newest_first known)
+  list_changed known once there = ap reverse (in_table known once there) ∙ sym (map-reverse change (map learnt_entry known))
+
+-- where it is not there, nothing changes
+pub nothing_led : (x : Pmac) (to : Recall) (es : Table) → lookup (same_pmac x) es ≡ None → map learnt_entry es ≡ map (leads_on x to.new to.number) (map learnt_entry es)
+nothing_led x to [] h = refl
+nothing_led x to (e ∷ es) h = by (λ j. nothing_led x to es j) (same_pmac x e.0) refl h
+  where
+    by : (lookup (same_pmac x) es ≡ None → map learnt_entry es ≡ map (leads_on x to.new to.number) (map learnt_entry es)) →
+        (b : Bool) → same_pmac x e.0 ≡ b → cond b (Some e.1) (lookup (same_pmac x) es) ≡ None →
+        map learnt_entry (e ∷ es) ≡ map (leads_on x to.new to.number) (map learnt_entry (e ∷ es))
+    by rest true same j = absurd (cc)
+    by rest false same j = λ i. sym ((led_changes x to e.1).other e.0 e.1 (pmac_turned e.0 x ∙ same)) i ∷ rest j i
+
+pub something_led : (x : Pmac) (to : Recall) (es : Table) (k : Known) → IsDistinct same_pmac (keys_of es) → lookup (same_pmac x) es ≡ Some k →
+    map learnt_entry (insert_entry same_pmac es x (led_to to k)) ≡ map (leads_on x to.new to.number) (map learnt_entry es)
+something_led x to es k once there = in_table x k (led_to to k) (leads_on x to.new to.number) (led_changes x to k) es once there
+
+-- ---- an address is told again
+module _ (known after : Table) (latest : Latest) (x : Pmac) (told : Told) (k : Known) (found : FindAddresses known latest)
+    (there : lookup (same_pmac x) known ≡ Some k) (entries : after ≡ insert_entry same_pmac known x (told_ip told k)) where
+  learnt_again : newest_first after ≡ map (told_again (told_at x told)) (newest_first known)
+  learnt_again =
+      ap newest_first entries ∙ list_changed x k (told_ip told k) (told_again (told_at x told)) (told_changes x told k) known found.once there
+
+  pub is_with_address : newest_first after ≡ with_address (learnt_of (newest_first known)) (told_at x told)
+  is_with_address =
+      let addresses = newest_first known in
+      let n = length addresses + 1 in
+      learnt_again
+      ∙ sym (ap (λ b. cond b (map (told_again (told_at x told)) addresses)
+      (learnt_as n (told_at x told) ∷ recalled (newest (learnt_of addresses) told.amac) x n addresses))
+      (registered_where_known known x found.once ∙ ap is_some there))
+
+  pub found_still : IsDistinct same_pmac (keys_of after) → FindAddresses after latest
+  found_still once = record {
+    once = once;
+    newest = λ mac. ap (λ addresses. newest (learnt_of addresses) mac) learnt_again ∙ newest_again (told_at x told) (newest_first known) mac ∙ found.newest mac;
+  }
+
+-- ---- an address is learnt
+found_then_any : {X : Type 0} (p q : X → Bool) (xs : List X) (x : X) → find p xs ≡ Some x → q x ≡ true → list_any q xs ≡ true
+found_then_any p q [] x found passes = let none : None ≡ Some x = found in absurd (cc)
+found_then_any p q (y ∷ xs) x found passes = by (λ j. found_then_any p q xs x j passes) (p y) found
+  where
+    by : (find p xs ≡ Some x → list_any q xs ≡ true) → (b : Bool) → cond b (Some y) (find p xs) ≡ Some x → (q y || list_any q xs) ≡ true
+    by rest true j = let same : y ≡ x = cc in ap (λ z. q z || list_any q xs) same ∙ ap (λ b. b || list_any q xs) passes
+    by rest false j = or_right (q y) (list_any q xs) (rest j)
+
+module _ (known put after : Table) (latest latest_after : Latest) (x : Pmac) (told : Told) (found : FindAddresses known latest)
+    (fresh : lookup (same_pmac x) known ≡ None) where
+  abbrev number : ℕ
+  number = length (newest_first known) + 1
+
+  abbrev first : Known
+  first = record { switch = told.switch; amac = told.amac; ip = told.ip; number = length (newest_first known) + 1; recall = None; aged = false }
+
+  abbrev to : Recall
+  to = record { new = x; number = length (newest_first known) + 1 }
+
+  -- the newest address of a host is another one
+  other_one : (old : Registered) → lookup (same_mac told.amac) latest ≡ Some old → same_pmac x old.pmac ≡ false
+  other_one old is =
+      let one = option_map_some registered_as (find (is_newest_of told.amac) (newest_first known)) (registration_of old)
+      (found.newest told.amac ∙ ap (option_map registration_of) is) in
+      let name : one.0.pmac ≡ old.pmac = ap (λ (r : Registration). r.pmac) one.2 in
+      let listed : list_any (λ a. same_pmac a.pmac old.pmac) (newest_first known) ≡ true =
+      found_then_any (is_newest_of told.amac) (λ a. same_pmac a.pmac old.pmac) (newest_first known) one.0 one.1
+      (subst (λ p. same_pmac one.0.pmac p ≡ true) name (pmac_itself one.0.pmac)) in
+      let there : is_some (lookup (same_pmac old.pmac) known) ≡ true =
+      sym (registered_where_known known old.pmac found.once) ∙ sym (any_registered (newest_first known) old.pmac) ∙ listed in
+      by (same_pmac x old.pmac) refl there
+    where
+      by : (b : Bool) → same_pmac x old.pmac ≡ b → is_some (lookup (same_pmac old.pmac) known) ≡ true → same_pmac x old.pmac ≡ false
+      by true same there =
+          absurd (false≢true (sym (ap is_some fresh) ∙ subst (λ z. is_some (lookup (same_pmac z) known) ≡ true) (sym (pmac_is x old.pmac same)) there))
+      by false other there = other
+
+  module _ (entries : put ≡ insert_entry same_pmac known x (record { switch = told.switch; amac = told.amac; ip = told.ip; number = length (newest_first known) + 1; recall = None; aged = false }))
+      (once : IsDistinct same_pmac (keys_of put))
+      (led : IsLedFrom (lookup (same_mac told.amac) latest) (record { new = x; number = length (newest_first known) + 1 }) put after) where
+    pub is_added : newest_first after ≡ learnt_as (length (newest_first known) + 1) (told_at x told)
+        ∷ recalled (newest (learnt_of (newest_first known)) told.amac) x (length (newest_first known) + 1) (newest_first known)
+    is_added =
+        by (lookup (same_mac told.amac) latest) refl led
+        ∙ sym (ap (λ o. learnt_as number (told_at x told) ∷ recalled o x number (newest_first known)) (found.newest told.amac))
+      where
+        by : (o : Option Registered) → lookup (same_mac told.amac) latest ≡ o → IsLedFrom o to put after →
+            newest_first after ≡ learnt_as number (told_at x told) ∷ recalled (option_map registration_of o) x number (newest_first known)
+        by None is same = ap newest_first same ∙ newest_added known put x first fresh entries
+        by (Some old) is leads =
+            ap reverse (leads.entries once) ∙ sym (map-reverse (leads_on old.pmac x number) (map learnt_entry put))
+            ∙ ap (map (leads_on old.pmac x number)) (newest_added known put x first fresh entries)
+            ∙ ap (λ a. a ∷ map (leads_on old.pmac x number) (newest_first known)) ((led_changes old.pmac to first).other x first (other_one old is))
+
+    same_keys : (o : Option Registered) → IsLedFrom o to put after → keys_of after ≡ keys_of put
+    same_keys None same = ap keys_of same
+    same_keys (Some old) leads = leads.keys
+
+    pub found_more : ((mac : Mac) → lookup (same_mac mac) latest_after
+        ≡ cond (same_mac told.amac mac) (Some (record { pmac = x; amac = told.amac; number = length (newest_first known) + 1; switch = told.switch })) (lookup (same_mac mac) latest)) →
+        FindAddresses after latest_after
+    found_more names = record {
+      once = subst (IsDistinct same_pmac) (sym (same_keys (lookup (same_mac told.amac) latest) led)) once;
+      newest = λ mac. ap (λ addresses. newest (learnt_of addresses) mac) is_added ∙ by mac (same_mac told.amac mac) refl
+          ∙ ap (option_map registration_of) (sym (names mac));
+    }
+      where
+        by : (mac : Mac) (b : Bool) → same_mac told.amac mac ≡ b →
+            option_map registered_as (cond (b && true) (Some (learnt_as number (told_at x told)))
+            (find (is_newest_of mac) (recalled (newest (learnt_of (newest_first known)) told.amac) x number (newest_first known))))
+            ≡ option_map registration_of (cond b (Some (record { pmac = x; amac = told.amac; number = length (newest_first known) + 1; switch = told.switch })) (lookup (same_mac mac) latest))
+        by mac true same = refl
+        by mac false other =
+            others_recalled (learnt_of (newest_first known)) told.amac x number mac other (listed_once known found.once) ∙ found.newest mac

@@ -2,4 +2,5 @@ pub mod Keys
 pub mod Alike
 pub mod Telling
 pub mod Finding
+pub mod Counting
 pub mod Asking

@@ -1,10 +1,9 @@
-ghost use Rattle.std.specs.Prelude.{◌≡◌, ◌+◌, [], IfOk, OnErr, OnOk, find, length, option_map, if◌then◌else◌, Some, None, false, ◌∷◌};
-ghost use Rattle.std.specs.List.{list_any};
+ghost use Rattle.std.specs.Prelude.{◌≡◌, ◌+◌, ◌∷◌, [], IfOk, IsOk, OnErr, OnOk, find, length, option_map, if◌then◌else◌, Some, None, false};
 ghost use Rattle.std.specs.Option.{option_and_then};
-ghost use Rattle.pl_layouts.specs.Equality.{same_mac, same_pmac};
-ghost use Rattle.pl_node.specs.ManagerViews.{numbered};
-ghost use Rattle.pl_manager_rule.specs.ManagerRule.{with_address};
-ghost use Rattle.pl_registry.specs.Addresses.{learnt_at, registration_of};
+ghost use Rattle.pl_layouts.specs.Equality.{same_pmac};
+ghost use Rattle.pl_node.specs.ManagerViews.{newest, registration};
+ghost use Rattle.pl_manager_rule.specs.ManagerRule.{is_registered, learnt_as, recalled, with_address};
+ghost use Rattle.pl_registry.specs.Addresses.{IsLed, IsLedFrom, learnt_at, learnt_of, registration_of, told_at};
 
 use indexmap::IndexMap;
 use pl_frame::{Ip4, Mac, SwitchId};
@@ -13,13 +12,32 @@ use pl_pmac::Pmac;
 use std::alloc::Global;
 use std::marker::Model;
 
-/// What is known of a pseudo address: the switch that told it first, the host, and the IPv4 address that was
-/// told last with it.
+/// What a switch tells with a pseudo address: itself, the host, and the IPv4 address, where it is told.
+#[derive(Clone, Copy, Debug)]
+pub(crate) struct Told {
+    pub(crate) switch: SwitchId,
+    pub(crate) amac: Mac,
+    pub(crate) ip: Option<Ip4>,
+}
+
+/// The newer address to which an address leads, and the number of that one.
+#[derive(Clone, Copy, Debug)]
+pub(crate) struct Recall {
+    pub(crate) new: Pmac,
+    pub(crate) number: u64,
+}
+
+/// What is known of a pseudo address: the switch that told it first, the host, the IPv4 address that was
+/// told last with it, its number, where it leads since its host has a newer one, and whether it has aged
+/// since.
 #[derive(Clone, Copy, Debug)]
 pub(crate) struct Known {
     pub(crate) switch: SwitchId,
     pub(crate) amac: Mac,
     pub(crate) ip: Option<Ip4>,
+    pub(crate) number: u64,
+    pub(crate) recall: Option<Recall>,
+    pub(crate) aged: bool,
 }
 
 /// A pseudo address, its host, its registration number and the switch that told it first.
@@ -48,7 +66,7 @@ impl Model for Addresses {
 
     ghost view = { λ addresses. newest_first addresses.known.entries };
 
-    ghost invariant = { λ addresses. FindAddresses (newest_first addresses.known.entries) addresses.known.entries addresses.newest.entries };
+    ghost invariant = { λ addresses. FindAddresses addresses.known.entries addresses.newest.entries };
 }
 
 impl Addresses {
@@ -63,7 +81,7 @@ impl Addresses {
 
     /// The host of a pseudo address.
     pub(crate) fn host_of(&self, pmac: Pmac) -> Option<Mac>
-        ensures { result ≡ option_map (λ r. r.amac) (find (λ r. same_pmac r.pmac pmac) (numbered self.now)) }
+        ensures { result ≡ option_map (λ r. r.amac) (registration (learnt_of self.now) pmac) }
     {
         let known = self.known_at(pmac)?;
         Some(known.amac)
@@ -80,23 +98,22 @@ impl Addresses {
     // What is known of a pseudo address.
     fn known_at(&self, pmac: Pmac) -> Option<Known>
         ensures address { find (λ a. same_pmac a.pmac pmac) self.now ≡ option_map (learnt_at pmac) result }
-        ensures host { option_map (λ r. r.amac) (find (λ r. same_pmac r.pmac pmac) (numbered self.now)) ≡ option_map (λ k. k.amac) result }
+        ensures host { option_map (λ r. r.amac) (registration (learnt_of self.now) pmac) ≡ option_map (λ k. k.amac) result }
     {
         self.known.get(&pmac).copied()
     }
 
     /// The newest address of a host.
     pub(crate) fn newest(&self, amac: Mac) -> Option<Registered>
-        ensures { option_map registration_of result ≡ find (λ r. same_mac r.amac amac) (numbered self.now) }
+        ensures { option_map registration_of result ≡ newest (learnt_of self.now) amac }
     {
         self.newest.get(&amac).copied()
     }
 
     /// A switch tells a pseudo address. The answer is its number where it was not known.
-    pub(crate) fn learn(&mut self, pmac: Pmac, told: Known) -> Result<Option<u64>, Memory>
-        ensures ok { OnOk result (self.new ≡ with_address self.old (record { switch = told.switch; pmac = pmac; amac = told.amac; ip = told.ip })) }
-        ensures number { IfOk result (λ number. number ≡
-            (if list_any (λ r. same_pmac r.pmac pmac) (numbered self.old) then None else Some (length (numbered self.old) + 1))) }
+    pub(crate) fn learn(&mut self, pmac: Pmac, told: Told) -> Result<Option<u64>, Memory>
+        ensures ok { OnOk result (self.new ≡ with_address (learnt_of self.old) (told_at pmac told)) }
+        ensures number { IfOk result (λ number. number ≡ (if is_registered self.old pmac then None else Some (length self.old + 1))) }
         ensures err { OnErr result (self.new ≡ self.old) }
     {
         match self.known.get(&pmac).copied() {
@@ -110,10 +127,11 @@ impl Addresses {
     }
 
     // A pseudo address that was not known. Memory is taken for both tables before either is changed.
-    fn add(&mut self, pmac: Pmac, told: Known) -> Result<u64, Memory>
-        requires { list_any (λ r. same_pmac r.pmac pmac) (numbered self.old) ≡ false }
-        ensures ok { OnOk result (self.new ≡ record { switch = told.switch; pmac = pmac; amac = told.amac; ip = told.ip } ∷ self.old) }
-        ensures number { IfOk result (λ number. number ≡ length (numbered self.old) + 1) }
+    fn add(&mut self, pmac: Pmac, told: Told) -> Result<u64, Memory>
+        requires { is_registered self.old pmac ≡ false }
+        ensures ok { OnOk result (self.new ≡ learnt_as (length self.old + 1) (told_at pmac told)
+            ∷ recalled (newest (learnt_of self.old) told.amac) pmac (length self.old + 1) self.old) }
+        ensures number { IfOk result (λ number. number ≡ length self.old + 1) }
         ensures err { OnErr result (self.new ≡ self.old) }
     {
         self.known.reserve(1)?;
@@ -125,8 +143,57 @@ impl Addresses {
             number,
             switch: told.switch,
         };
-        self.newest.insert(told.amac, registered)?;
-        self.known.insert(pmac, told)?;
+        let old = self.newest.insert(told.amac, registered)?;
+        self.known.insert(pmac, first_known(told, number))?;
+        lead_from(&mut self.known, old, Recall { new: pmac, number })?;
         Ok(number)
+    }
+}
+
+fn first_known(told: Told, number: u64) -> Known
+    ensures { result ≡ record { switch = told.switch; amac = told.amac; ip = told.ip; number = number; recall = None; aged = false } }
+{
+    Known {
+        switch: told.switch,
+        amac: told.amac,
+        ip: told.ip,
+        number,
+        recall: None,
+        aged: false,
+    }
+}
+
+// The newest address of a host, if it had one, leads to a newer one from then on. Takes no memory.
+fn lead_from(
+    known: &mut IndexMap<Pmac, Known>,
+    old: Option<Registered>,
+    to: Recall,
+) -> Result<(), Memory>
+    ensures led { OnOk result (IsLedFrom old to known.old.entries known.new.entries) }
+    ensures ok { IsOk result }
+{
+    match old {
+        Some(old) => lead_on(known, old.pmac, to),
+        None => Ok(()),
+    }
+}
+
+fn lead_on(known: &mut IndexMap<Pmac, Known>, old: Pmac, to: Recall) -> Result<(), Memory>
+    ensures led { OnOk result (IsLed old to known.old.entries known.new.entries) }
+    ensures ok { IsOk result }
+{
+    match known.get(&old).copied() {
+        Some(before) => {
+            known.insert(
+                old,
+                Known {
+                    recall: Some(to),
+                    aged: false,
+                    ..before
+                },
+            )?;
+            Ok(())
+        }
+        None => Ok(()),
     }
 }

@@ -1,9 +1,10 @@
 //! What the fabric manager learns of addresses and of switches that want a pod, each found in constant
 //! time.
 //!
-//! `Registry` has the pseudo addresses in the order in which they were first learnt, the newest address of
-//! each host, and the pseudo address with which each IPv4 address was told last. `Askers` has the switches
-//! that asked for the number of a pod. What the manager makes of them is left to the crates above.
+//! `Registry` has the pseudo addresses in the order in which they were first learnt, with where each leads
+//! since its host has a newer one, the newest address of each host, and the host of each IPv4 address.
+//! `Askers` has the switches that asked for the number of a pod. What the manager makes of them is left to the
+//! crates above.
 #![tactic(auto)]
 
 pub use askers::Askers;

@@ -4,26 +4,25 @@ ghost use Rattle.pl_node.specs.HostViews.{ip_cmp};
 ghost use Rattle.pl_node.specs.ManagerViews.{value_at};
 
 use indexmap::IndexMap;
-use pl_frame::Ip4;
+use pl_frame::{Ip4, Mac};
 use pl_node::Memory;
-use pl_pmac::Pmac;
 use std::alloc::Global;
 use std::marker::Model;
 
-/// The pseudo address with which each IPv4 address was told last. Contracts see them by rising IPv4
+/// The host with whose pseudo address each IPv4 address was told last. Contracts see them by rising IPv4
 /// address.
 #[derive(Debug, Drop)]
 pub(crate) struct Owners {
-    told: IndexMap<Ip4, Pmac>,
+    told: IndexMap<Ip4, Mac>,
 }
 
 impl Model for Owners {
     ghost use Rattle.std.specs.Prelude.{List};
     ghost use Rattle.pl_frame.specs.declared.address.Ip4.{Ip4};
-    ghost use Rattle.pl_pmac.specs.declared.pmac.Pmac.{Pmac};
+    ghost use Rattle.pl_frame.specs.declared.address.Mac.{Mac};
     ghost use Rattle.pl_registry.specs.Owners.{by_address};
 
-    ghost Value = { List (Ip4 × Pmac) };
+    ghost Value = { List (Ip4 × Mac) };
 
     ghost view = { λ owners. by_address owners.told.entries };
 }
@@ -37,18 +36,18 @@ impl Owners {
         }
     }
 
-    pub(crate) fn get(&self, ip: Ip4) -> Option<Pmac>
+    pub(crate) fn get(&self, ip: Ip4) -> Option<Mac>
         ensures { result ≡ value_at ip_cmp self.now ip }
     {
         self.told.get(&ip).copied()
     }
 
-    /// An IPv4 address is told with a pseudo address.
-    pub(crate) fn set(&mut self, ip: Ip4, pmac: Pmac) -> Result<(), Memory>
-        ensures ok { OnOk result (self.new ≡ insert_entry ip_cmp self.old ip pmac) }
+    /// An IPv4 address is told with a pseudo address of a host.
+    pub(crate) fn set(&mut self, ip: Ip4, amac: Mac) -> Result<(), Memory>
+        ensures ok { OnOk result (self.new ≡ insert_entry ip_cmp self.old ip amac) }
         ensures err { OnErr result (self.new ≡ self.old) }
     {
-        self.told.insert(ip, pmac)?;
+        self.told.insert(ip, amac)?;
         Ok(())
     }
 }

@@ -5,7 +5,7 @@ ghost use Rattle.pl_manager_rule.specs.ManagerRule.{invalidation, learning, with
 ghost use Rattle.pl_registry.specs.Addresses.{registration_of};
 ghost use Rattle.pl_registry.specs.Learning.{acts_of_learning, acts_of_replaced};
 
-use crate::addresses::{Addresses, Known, Registered};
+use crate::addresses::{Addresses, Registered, Told};
 use crate::owners::Owners;
 use pl_frame::{Ip4, Mac, SwitchId};
 use pl_node::Memory;
@@ -14,7 +14,7 @@ use std::alloc::Global;
 use std::marker::Model;
 
 /// What was learnt of addresses. Contracts see it as the manager's rule does: the addresses with the newest
-/// first, and the owners by rising IPv4 address.
+/// first, the owners by rising IPv4 address, and how many addresses were learnt.
 #[derive(Debug, Drop)]
 pub struct Registry {
     addresses: Addresses,
@@ -43,12 +43,14 @@ impl Model for Registry {
 
     ghost Value = { Learnt };
 
-    ghost view = { λ registry. record { addresses = registry.addresses; owners = registry.owners } };
+    ghost use Rattle.std.specs.Prelude.{length};
+
+    ghost view = { λ registry. record { addresses = registry.addresses; owners = registry.owners; count = length registry.addresses } };
 }
 
 impl Registry {
     pub fn new(alloc: Global) -> Registry
-        ensures { result ≡ record { addresses = []; owners = [] } }
+        ensures { result ≡ record { addresses = []; owners = []; count = 0 } }
     {
         Registry {
             addresses: Addresses::new(alloc),
@@ -60,8 +62,7 @@ impl Registry {
     pub fn lookup(&self, ip: Ip4) -> Option<Pmac>
         ensures { result ≡ lookup self.now ip }
     {
-        let told = self.owners.get(ip)?;
-        let amac = self.addresses.host_of(told)?;
+        let amac = self.owners.get(ip)?;
         let newest = self.addresses.newest(amac)?;
         Some(newest.pmac)
     }
@@ -87,8 +88,9 @@ impl Registry {
         ensures acts { IfOk result (λ answer. acts_of_learning pmac answer ≡ learning self.old self.new pmac amac) }
     {
         let before = self.addresses.newest(amac);
-        let number = self.addresses.learn(pmac, Known { switch, amac, ip })?;
-        self.tell_owner(ip, pmac)?;
+        let host = self.addresses.host_of(pmac).unwrap_or(amac);
+        let number = self.addresses.learn(pmac, Told { switch, amac, ip })?;
+        self.tell_owner(ip, host)?;
         let Some(number) = number else {
             return Ok(None);
         };
@@ -96,12 +98,12 @@ impl Registry {
         Ok(Some(Learning { number, replaced }))
     }
 
-    // An IPv4 address, if one is told, is told last with this pseudo address.
-    fn tell_owner(&mut self, ip: Option<Ip4>, pmac: Pmac) -> Result<(), Memory>
-        ensures { OnOk result (self.new ≡ record { addresses = self.old.addresses; owners = with_owner self.old.owners ip pmac }) }
+    // An IPv4 address, if one is told, is told last with a pseudo address of this host.
+    fn tell_owner(&mut self, ip: Option<Ip4>, amac: Mac) -> Result<(), Memory>
+        ensures { OnOk result (self.new ≡ record self.old { owners = with_owner self.old.owners ip amac }) }
     {
         match ip {
-            Some(ip) => self.owners.set(ip, pmac),
+            Some(ip) => self.owners.set(ip, amac),
             None => Ok(()),
         }
     }

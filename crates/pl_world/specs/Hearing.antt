@@ -1,15 +1,15 @@
 -- What the manager has heard is within the wiring, so that it can hear each switch at each moment.
-use Rattle.std.specs.Prelude.{◌≡◌, ◌≤◌, ℕ, Contains, IsTrue, length}
+use Rattle.std.specs.Prelude.{◌≡◌, ◌≤◌, ℕ, Contains, IsTrue}
 use Rattle.pl_frame.specs.declared.address.SwitchId.{SwitchId}
 use Rattle.pl_wiring.specs.Plan.{Plan}
-use Rattle.pl_node.specs.ManagerViews.{ManagerView, is_heard, registry}
+use Rattle.pl_node.specs.ManagerViews.{ManagerView, is_heard}
 use Rattle.pl_world.specs.Worlds.{WorldView}
 
 -- the manager of this wiring heard no switches but those of the wiring, and learnt no more addresses than steps were made
 pub record HeardWithin (plan : Plan) (manager : ManagerView) (steps : ℕ) : Type 0 where
   pub same_k : manager.k ≡ plan.k
   pub heard : (t : SwitchId) → IsTrue (is_heard manager t) → Contains plan.ids t
-  pub addresses : length (registry manager.learnt) ≤ steps
+  pub addresses : manager.learnt.count ≤ steps
 
 -- so it is in this world, whose limit is fewer steps than there are numbers for addresses
 pub record IsWithinHearing (w : WorldView) : Type 0 where

@@ -1,17 +1,17 @@
 -- Who says nothing answers duly.
-use Rattle.std.proofs.Common.{◌≡◌, ◌++◌, map, refl, sym, ap, subst, arith, IsTrue}
+use Rattle.std.proofs.Common.{[], refl, sym, subst, arith, IsTrue}
 use Rattle.std.specs.List.{filter_map, list_all}
 use Rattle.std.proofs.lemmas.Bool.{or_right}
 use Rattle.pl_layouts.specs.Equality.{same_switch}
-use Rattle.pl_node.specs.ManagerDuties.{AnswersDuly, IsGrown, is_for_heard, numbered_by, with_number}
-use Rattle.pl_node.specs.ManagerViews.{ManagerView, is_heard, registry}
+use Rattle.pl_node.specs.ManagerDuties.{AnswersDuly, AreNumbered, IsGrown, is_for_heard, numbered_by}
+use Rattle.pl_node.specs.ManagerViews.{ManagerView, is_heard}
 use Rattle.pl_bridge_rule.specs.QuietManager.{IsQuiet}
 
 pub answers : AnswersDuly IsQuiet
 answers = record {
   heard = λ before s says after acts quiet. subst (λ a. IsTrue (list_all (is_for_heard before s) a)) (sym quiet.none) refl;
-  numbered = λ before s says after acts quiet. subst (λ a. map with_number (registry after.learnt) ≡ filter_map numbered_by a ++ map with_number (registry before.learnt)) (sym quiet.none)
-      (ap (λ (v : ManagerView). map with_number (registry v.learnt)) quiet.same);
+  numbered = λ before s says after acts quiet. subst (λ a. AreNumbered before.learnt after.learnt (filter_map numbered_by a)) (sym quiet.none)
+      (subst (λ (v : ManagerView). AreNumbered before.learnt v.learnt []) (sym quiet.same) (record { registered = refl; count = omega arith; next = tt }));
   grows = λ before s says after acts quiet. subst (λ v. IsGrown before s v) (sym quiet.same) (record {
     k = refl;
     heard = λ t h. or_right (same_switch s t) (is_heard before t) h;

@@ -1,5 +1,5 @@
 -- A manager that says nothing owes nothing, and a host that sends its first frame alone sends data and joins no group.
-use Rattle.std.proofs.Common.{◌≡◌, IsTrue, List, [], ◌++◌, map, length, refl, sym, ap, subst, ◌∙◌}
+use Rattle.std.proofs.Common.{◌≡◌, IsTrue, List, [], refl, sym, ap, subst, ◌∙◌, zero-add}
 use Rattle.std.proofs.Math.Nat.{le-add_right}
 use Rattle.std.proofs.lemmas.Bool.{or_right}
 use Rattle.std.specs.List.{filter_map, list_all}
@@ -12,8 +12,8 @@ use Rattle.pl_node.specs.HostInputs.{HostAnswer, HostInput}
 use Rattle.pl_node.specs.HostInputs.HostAnswer.{Received}
 use Rattle.pl_node.specs.HostInputs.HostInput.{HasMoved, Joins, Leaves, Plays, PlaysRaw, Receives, Retries, Starts}
 use Rattle.pl_node.specs.HostViews.{HostView}
-use Rattle.pl_node.specs.ManagerDuties.{AnswersDuly, IsGrown, is_for_heard, numbered_by, with_number}
-use Rattle.pl_node.specs.ManagerViews.{ManagerView, is_heard, registry}
+use Rattle.pl_node.specs.ManagerDuties.{AnswersDuly, AreNumbered, IsGrown, is_for_heard, numbered_by}
+use Rattle.pl_node.specs.ManagerViews.{Learnt, ManagerView, is_heard}
 use Rattle.pl_node.specs.declared.reception.Reception.{Reception}
 use Rattle.pl_node.specs.declared.reception.Reception.TheVariants.{Kept}
 use Rattle.pl_host_rule.proofs.Exports.HostOwn as own
@@ -25,15 +25,18 @@ pub grown : (view : ManagerView) (s : SwitchId) → IsGrown view s view
 grown view s = record {
   k = refl;
   heard = λ t h. or_right (same_switch s t) (is_heard view t) h;
-  addresses = le-add_right (length (registry view.learnt)) 1;
+  addresses = le-add_right view.learnt.count 1;
 }
+
+pub nothing_numbered : (learnt : Learnt) → AreNumbered learnt learnt []
+nothing_numbered learnt = record { registered = refl; count = sym (zero-add learnt.count); next = tt }
 
 pub says_nothing_duly : AnswersDuly SaysNothing
 says_nothing_duly = record {
   heard = λ before s says after acts ruled. subst (λ acts. IsTrue (list_all (is_for_heard before s) acts)) (sym ruled.1) refl;
   numbered = λ before s says after acts ruled.
-      ap (λ view. map with_number (registry view.learnt)) ruled.0
-      ∙ ap (λ acts. filter_map numbered_by acts ++ map with_number (registry before.learnt)) (sym ruled.1);
+      subst (λ acts. AreNumbered before.learnt after.learnt (filter_map numbered_by acts)) (sym ruled.1)
+      (subst (λ view. AreNumbered before.learnt view.learnt []) (sym ruled.0) (nothing_numbered before.learnt));
   grows = λ before s says after acts ruled. subst (λ view. IsGrown before s view) (sym ruled.0) (grown before s);
 }
 

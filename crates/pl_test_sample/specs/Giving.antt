@@ -1,5 +1,5 @@
 -- A manager that gives each who asks for the number of its pod the number 0.
-use Rattle.std.proofs.Common.{◌≡◌, IsTrue, true, List, [], ◌∷◌, ◌++◌, map, refl, sym, ap, subst, ◌∙◌}
+use Rattle.std.proofs.Common.{◌≡◌, IsTrue, true, List, [], ◌∷◌, refl, sym, ap, subst, ◌∙◌}
 use Rattle.std.proofs.lemmas.Bool.{and_from, or_left}
 use Rattle.std.proofs.lemmas.Bool.Decides.{Decides-eqb}
 use Rattle.std.specs.List.{filter_map, list_all}
@@ -9,10 +9,10 @@ use Rattle.pl_node.specs.declared.acts.ManagerAct.TheVariants.{Say}
 use Rattle.pl_node.specs.declared.messages.ToManager.{ToManager}
 use Rattle.pl_node.specs.declared.messages.ToManager.TheVariants.{PodWanted}
 use Rattle.pl_node.specs.declared.messages.ToSwitch.TheVariants.{Pod}
-use Rattle.pl_node.specs.ManagerDuties.{AnswersDuly, IsGrown, ManagerRule, is_for_heard, numbered_by, with_number}
-use Rattle.pl_node.specs.ManagerViews.{ManagerView, is_heard, registry}
+use Rattle.pl_node.specs.ManagerDuties.{AnswersDuly, AreNumbered, IsGrown, ManagerRule, is_for_heard, numbered_by}
+use Rattle.pl_node.specs.ManagerViews.{ManagerView, is_heard}
 use Rattle.pl_layouts.specs.Equality.{same_switch}
-use Rattle.pl_test_sample.specs.Duties.{grown}
+use Rattle.pl_test_sample.specs.Duties.{grown, nothing_numbered}
 
 abbrev pub given : SwitchId → ToManager → List ManagerAct
 given s PodWanted = Say s (Pod 0) ∷ []
@@ -36,8 +36,7 @@ gives_pods_duly = record {
   heard = λ before s says after acts ruled.
       subst (λ acts. IsTrue (list_all (is_for_heard before s) acts)) (sym ruled.1) (given_to_asker before s says);
   numbered = λ before s says after acts ruled.
-      ap (λ view. map with_number (registry view.learnt)) ruled.0
-      ∙ ap (λ acts. acts ++ map with_number (registry before.learnt)) (sym (numbers_nothing s says))
-      ∙ ap (λ acts. filter_map numbered_by acts ++ map with_number (registry before.learnt)) (sym ruled.1);
+      subst (AreNumbered before.learnt after.learnt) (sym (ap (filter_map numbered_by) ruled.1 ∙ numbers_nothing s says))
+      (subst (λ view. AreNumbered before.learnt view.learnt []) (sym ruled.0) (nothing_numbered before.learnt));
   grows = λ before s says after acts ruled. subst (λ view. IsGrown before s view) (sym ruled.0) (grown before s);
 }

@@ -26,6 +26,7 @@ use Rattle.pl_switch_rule.specs.HostsAlone.{host_port}
 use Rattle.pl_node.specs.SwitchFacts.{switch_at_boot}
 use Rattle.pl_switch_rule.specs.SwitchRule.{by_flow, switch_step}
 use Rattle.pl_node.specs.SwitchInputs.SwitchInput.{Comes, Says}
+use Rattle.pl_node.specs.declared.address_use.AddressUse.TheVariants.{InUse, Trapped}
 use Rattle.pl_node.specs.declared.switch_records.Grant.{Grant}
 use Rattle.pl_node.specs.SwitchViews.{SwitchView}
 use Rattle.pl_examples.specs.VoteExamples.{level, port_to, switch}
@@ -71,7 +72,7 @@ no_pod_is_taken_twice = refl
 -- A frame comes in under the address of its source, and out with the host's own.
 
 abbrev pub granted_to : Mac → ℕ → Grant
-granted_to amac ip = record { amac = amac; ip = Some (ip_of ip); in_use = true; trap = None }
+granted_to amac ip = record { amac = amac; ip = Some (ip_of ip); held = InUse 0 }
 
 -- e0.0 with hosts a and b
 abbrev pub with_hosts : SwitchView
@@ -177,7 +178,7 @@ no_older_trap_takes_its_place : invalidate (invalidate e10 (address 1 0) back_ag
 no_older_trap_takes_its_place = refl
 
 a_newer_one_does : (invalidate (invalidate e10 (address 1 0) back_again 5) (address 1 0) gone 6).grants
-    ≡ (record (granted_to d 0x0a000004) { in_use = false; trap = Some (trap_to gone 6) } ∷ []) ∷ (granted_to d 0x0a000004 ∷ []) ∷ [] ∷ [] ∷ []
+    ≡ (record (granted_to d 0x0a000004) { held = Trapped (trap_to gone 6) 0 } ∷ []) ∷ (granted_to d 0x0a000004 ∷ []) ∷ [] ∷ [] ∷ []
 a_newer_one_does = refl
 
 -- Groups.

@@ -258,9 +258,18 @@ nothing_more_is_known_of_an_address = refl
 the_ip_of_the_newest_address :
     (manager_hears at_its_second_place (the_switch 2) (tell.Learned its_second the_host (Some its_ip))).view.learnt
     ≡ record {
-      addresses = record { switch = the_switch 2; pmac = its_second; amac = the_host; ip = Some its_ip }
-          ∷ record { switch = the_switch 3; pmac = its_first; amac = the_host; ip = Some its_ip } ∷ [];
-      owners = (its_ip, its_second) ∷ [];
+      addresses = record { switch = the_switch 2; pmac = its_second; amac = the_host; ip = Some its_ip; number = 2; recall = None; aged = false }
+          ∷ record {
+            switch = the_switch 3;
+            pmac = its_first;
+            amac = the_host;
+            ip = Some its_ip;
+            number = 1;
+            recall = Some (record { new = its_second; number = 2 });
+            aged = false;
+          } ∷ [];
+      owners = (its_ip, the_host) ∷ [];
+      count = 2;
     }
 unfolding manager_hears
 the_ip_of_the_newest_address = refl
@@ -275,7 +284,7 @@ asker_ip = record { 0 = 0x0a000001 }
 abbrev unknown_ip : Ip4
 unknown_ip = record { 0 = 0x0a000009 }
 
--- the IPv4 address was told with the first address; its owner's newest one is the answer
+-- the IPv4 address was told with the first address; the newest one of its owner is the answer
 a_question_finds_the_newest_address : (manager_hears at_its_second_place (the_switch 1) (tell.Query asker asker_ip its_ip)).acts
     ≡ Say (the_switch 1) (say.Answer asker asker_ip its_ip its_second) ∷ []
 unfolding manager_hears avoid_list tree_part core_of

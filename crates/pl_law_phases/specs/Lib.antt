@@ -1,0 +1,3 @@
+pub mod Tenures
+pub mod Phases
+pub mod PhaseExamples

@@ -6,7 +6,7 @@ use Rattle.std.proofs.lemmas.List.Folds.{list_any-append}
 use Rattle.std.proofs.lemmas.Option.{get_or_from_slice_get, none-some, same_Some, slice_get_within}
 use Rattle.pl_pmac.specs.declared.pmac.Pmac.{Pmac}
 use Rattle.pl_layouts.specs.Equality.{same_pmac}
-use Rattle.pl_layouts.proofs.Exports.{mac_is, mac_itself, pmac_is, pmac_itself}
+use Rattle.pl_layouts.proofs.Exports.{pmac_is, pmac_itself}
 
 -- ---- addresses
 

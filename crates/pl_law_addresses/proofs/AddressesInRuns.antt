@@ -1,5 +1,5 @@
 -- Addresses are in order at boot, and so in every run.
-use Rattle.std.proofs.Common.{◌≡◌, ◌<◌, ◌+◌, ◌^◌, ℕ, zero, suc, List, [], ◌∷◌, ◌++◌, length, replicate, get_or, Option, Some, None, slice_get, refl, sym, ap, subst, ◌∙◌, inl, inr, ◌≤◌, arith}
+use Rattle.std.proofs.Common.{◌≡◌, ◌<◌, ◌+◌, ◌^◌, ℕ, zero, suc, List, [], ◌∷◌, ◌++◌, length, replicate, Option, Some, None, slice_get, refl, sym, ap, subst, ◌∙◌, inl, inr, ◌≤◌, arith}
 use Rattle.std.specs.List.{AllByRecursion}
 use Rattle.std.proofs.lemmas.List.{length-replicate}
 use Rattle.std.proofs.lemmas.Option.{get_or_from_slice_get, none-some, same_Some, slice_get_within}
@@ -35,6 +35,8 @@ use Rattle.pl_world.specs.Runs.Moment.{Mark, Step}
 use Rattle.pl_world.specs.WorldRule.{WorldStep}
 use Rattle.pl_world.specs.Worlds.{WorldView}
 use Rattle.pl_world.proofs.Exports.{booted_is_counted, run_is_counted}
+use Rattle.pl_law_phases.specs.Phases.Phase.{Gone}
+use Rattle.pl_law_phases.specs.Tenures.{orders_of, words_of}
 use Rattle.pl_law_addresses.specs.OwnAddresses.{own_ip}
 use Rattle.pl_law_addresses.specs.OwnFrames.{IsOwnHost, IsOwnItem}
 use Rattle.pl_law_addresses.specs.Registries.{registry_of}
@@ -94,9 +96,10 @@ module _ (plan : Plan) (limits : Limits) (is_plan : IsPlan plan) where
   first_edge s id = record {
     placed = λ x g is. absurd (none-some g is);
     grants = λ x g is. absurd (none-some g is);
-    last = λ x y g h is at used mac port. absurd (none-some g is);
+    phases = λ x at. Gone refl (ap (λ ws. words_of x ws) (nothing_at (switch_count plan.k) s)) (ap (λ os. orders_of x os) (nothing_at (switch_count plan.k) s))
+        (record { reg = refl; recall = refl; aged = refl });
     words = subst (λ (ws : List ToManager). AllByRecursion (IsGoodWord (λ mac. own_ip plan mac) (λ x. None)) ws) (sym (nothing_at (switch_count plan.k) s)) tt;
-    orders = subst (λ (ws : List ToSwitch). AllByRecursion (IsGoodOrder (λ mac. own_ip plan mac) (registry_of (booted plan limits).manager.learnt) (λ x. None)) ws)
+    orders = subst (λ (ws : List ToSwitch). AllByRecursion (IsGoodOrder (λ mac. own_ip plan mac) (λ x. None)) ws)
         (sym (nothing_at (switch_count plan.k) s)) tt;
     here = λ x reg is at. absurd (none-some reg is);
   }
@@ -121,6 +124,9 @@ module _ (plan : Plan) (limits : Limits) (is_plan : IsPlan plan) where
         named = λ x reg is. absurd (none-some reg is);
         counted = λ x reg is. absurd (none-some reg is);
         newest_is = λ mac reg is. absurd (none-some reg is);
+        newest_leads = λ mac reg is. absurd (none-some reg is);
+        is_newest = λ x reg is none. absurd (none-some reg is);
+        leads = λ x reg c is to waits. absurd (none-some reg is);
         ips = λ x ip is. absurd (none-some ip is);
       };
       edges = λ s v is. let it = from_map (λ id. switch_at_boot id plan.k) plan.ids s v is in

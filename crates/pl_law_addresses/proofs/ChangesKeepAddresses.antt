@@ -1,6 +1,6 @@
 -- What keeps the addresses of an edge switch in order: more is told, and one address is changed.
-use Rattle.std.proofs.Common.{◌≡◌, ◌≤◌, ℕ, true, false, List, [], ◌∷◌, ◌++◌, Option, Some, sym, ap, subst, ◌∙◌, inl, inr, le_refl}
-use Rattle.std.specs.List.{AllByRecursion, list_any}
+use Rattle.std.proofs.Common.{◌≡◌, ℕ, true, false, List, [], ◌∷◌, ◌++◌, Option, Some, refl, sym, ap, subst, ◌∙◌, inl, inr}
+use Rattle.std.specs.List.{AllByRecursion}
 use Rattle.std.proofs.lemmas.Option.{same_Some}
 use Rattle.pl_lemmas.proofs.Exports.{all_append}
 use Rattle.pl_frame.specs.declared.address.Ip4.{Ip4}
@@ -14,8 +14,11 @@ use Rattle.pl_node.specs.declared.messages.ToSwitch.TheVariants as say
 use Rattle.pl_node.specs.declared.switch_records.Grant.{Grant}
 use Rattle.pl_node.specs.ManagerViews.{Registration}
 use Rattle.pl_law_addresses.specs.Registries.{LeadsToNewer, Registry}
-use Rattle.pl_law_addresses.specs.EdgeAddresses.{Edge, IsGoodEdge, IsGoodGrant, IsGoodOrder, IsGoodWord, KeepsGrantees, recalls, tells, tells_ip}
-use Rattle.pl_law_addresses.proofs.AddressLemmas.{any_before, any_rest, is_or_other}
+use Rattle.pl_law_phases.specs.Phases.{Phase}
+use Rattle.pl_law_phases.specs.Tenures.{order_of, orders_of, words_of}
+use Rattle.pl_law_addresses.specs.EdgeAddresses.{Edge, IsGoodEdge, IsGoodGrant, IsGoodOrder, IsGoodWord, KeepsGrantees, tells_ip, tenure_at}
+use Rattle.pl_law_addresses.proofs.AddressLemmas.{any_before, is_or_other}
+use Rattle.pl_law_addresses.proofs.PhasesStay.{knows_same, phase_kept, words_aside}
 
 -- what was registered stays so
 abbrev pub KeepsRegistered : Registry → Registry → Type 0
@@ -47,64 +50,48 @@ module _ (own : Mac → Option Ip4) where
   words_kept f g keeps [] all = tt
   words_kept f g keeps (word ∷ words) all = (word_kept f g keeps word all.0, words_kept f g keeps words all.1)
 
-  order_kept : (r n : Registry) → KeepsRegistered r n → (f g : Pmac → Option Grant) → KeepsGrantees f g → (order : ToSwitch) → IsGoodOrder own r f order → IsGoodOrder own n g order
-  order_kept r n registered f g keeps (say.Invalidate old new number ip) is = record {
-    mac = is.mac;
-    granted_to = keeps old is.mac is.granted_to;
-    leads = leads_kept r n registered old new number is.mac is.leads;
-    own_ip = is.own_ip;
-  }
-  order_kept r n registered f g keeps (say.Pod pod) is = tt
-  order_kept r n registered f g keeps (say.Answer asker asker_ip ip pmac) is = tt
-  order_kept r n registered f g keeps (say.Flood asker asker_ip ip) is = tt
-  order_kept r n registered f g keeps (say.Avoid list) is = tt
-  order_kept r n registered f g keeps (say.Tree group part) is = tt
+  order_kept : (f g : Pmac → Option Grant) → KeepsGrantees f g → (order : ToSwitch) → IsGoodOrder own f order → IsGoodOrder own g order
+  order_kept f g keeps (say.Invalidate old new number ip) is = record { mac = is.mac; granted_to = keeps old is.mac is.granted_to; own_ip = is.own_ip }
+  order_kept f g keeps (say.Pod pod) is = tt
+  order_kept f g keeps (say.Answer asker asker_ip ip pmac) is = tt
+  order_kept f g keeps (say.Flood asker asker_ip ip) is = tt
+  order_kept f g keeps (say.Avoid list) is = tt
+  order_kept f g keeps (say.Tree group part) is = tt
 
-  pub orders_kept : (r n : Registry) → KeepsRegistered r n → (f g : Pmac → Option Grant) → KeepsGrantees f g → (orders : List ToSwitch) →
-      AllByRecursion (IsGoodOrder own r f) orders → AllByRecursion (IsGoodOrder own n g) orders
-  orders_kept r n registered f g keeps [] all = tt
-  orders_kept r n registered f g keeps (order ∷ orders) all =
-      (order_kept r n registered f g keeps order all.0, orders_kept r n registered f g keeps orders all.1)
+  pub orders_kept : (f g : Pmac → Option Grant) → KeepsGrantees f g → (orders : List ToSwitch) →
+      AllByRecursion (IsGoodOrder own f) orders → AllByRecursion (IsGoodOrder own g) orders
+  orders_kept f g keeps [] all = tt
+  orders_kept f g keeps (order ∷ orders) all = (order_kept f g keeps order all.0, orders_kept f g keeps orders all.1)
 
 module _ (own : Mac → Option Ip4) (r : Registry) where
-  -- a grant stays good where no less is told and recalled
-  pub grant_more : (up more : List ToManager) (down less : List ToSwitch) (x : Pmac) (g : Grant) →
-      (list_any (recalls x) down ≡ true → list_any (recalls x) less ≡ true) → IsGoodGrant own r up down x g → IsGoodGrant own r (up ++ more) less x g
-  grant_more up more down less x g recalled good = record {
+  -- a grant stays good where no less is told
+  pub grant_more : (up more : List ToManager) (x : Pmac) (g : Grant) → IsGoodGrant own r up x g → IsGoodGrant own r (up ++ more) x g
+  grant_more up more x g good = record {
     own_ip = good.own_ip;
-    free = good.free;
-    told = λ used none. any_before (tells x) up more (good.told used none);
     told_ip = λ used ip is. elim (good.told_ip used ip is) [ inl known ↦ inl known | inr waits ↦ inr (any_before (tells_ip x) up more waits) ];
-    current = λ used reg is. elim (good.current used reg is) [ inl new ↦ inl new | inr waits ↦ inr (recalled waits) ];
-    trapped = good.trapped;
+    trap_ip = good.trap_ip;
   }
 
-  -- more good words are told
-  pub tells_more : (e : Edge) (more : List ToManager) → AllByRecursion (IsGoodWord own e.granted) more → IsGoodEdge own r e →
+  -- more good words are told, which speak of no address
+  pub tells_more : (e : Edge) (more : List ToManager) → AllByRecursion (IsGoodWord own e.granted) more → ((x : Pmac) → words_of x more ≡ []) → IsGoodEdge own r e →
       IsGoodEdge own r (record e { up = e.up ++ more })
-  tells_more e more words good = record {
+  tells_more e more words silent good = record {
     placed = good.placed;
-    grants = λ x g is. grant_more e.up more e.down e.down x g (λ h. h) (good.grants x g is);
-    last = good.last;
+    grants = λ x g is. grant_more e.up more x g (good.grants x g is);
+    phases = λ x at. phase_kept r r e (record e { up = e.up ++ more }) x (knows_same r x) refl (words_aside x e.up more (silent x)) refl (good.phases x at);
     words = all_append (IsGoodWord own e.granted) e.up more good.words words;
     orders = good.orders;
     here = λ x reg is at. let h = good.here x reg is at in record { teller = h.teller; granted_to = h.granted_to };
   }
 
-  -- an order is taken that recalls no address
-  pub takes_order : (e : Edge) (order : ToSwitch) (rest : List ToSwitch) → ((x : Pmac) → recalls x order ≡ false) →
+  -- an order is taken that speaks of no address
+  pub takes_order : (e : Edge) (order : ToSwitch) (rest : List ToSwitch) → ((x : Pmac) → order_of x order ≡ []) →
       IsGoodEdge own r (record e { down = order ∷ rest }) → IsGoodEdge own r (record e { down = rest })
   takes_order e order rest quiet good = record {
     placed = good.placed;
-    grants = λ x g is. let it = good.grants x g is in record {
-      own_ip = it.own_ip;
-      free = it.free;
-      told = it.told;
-      told_ip = it.told_ip;
-      current = λ used reg found. elim (it.current used reg found) [ inl new ↦ inl new | inr waits ↦ inr (any_rest (recalls x) order rest (quiet x) waits) ];
-      trapped = it.trapped;
-    };
-    last = good.last;
+    grants = λ x g is. let it = good.grants x g is in record { own_ip = it.own_ip; told_ip = it.told_ip; trap_ip = it.trap_ip };
+    phases = λ x at. phase_kept r r (record e { down = order ∷ rest }) (record e { down = rest }) x (knows_same r x) refl refl
+        (sym (ap (λ os. os ++ orders_of x rest) (quiet x))) (good.phases x at);
     words = good.words;
     orders = good.orders.1;
     here = λ x reg is at. let h = good.here x reg is at in record { teller = h.teller; granted_to = h.granted_to };
@@ -120,13 +107,11 @@ module _ (own : Mac → Option Ip4) (r : Registry) where
     ]
 
     pub changed : ((h : Grant) → e.granted x ≡ Some h → g.amac ≡ h.amac) → AllByRecursion (IsGoodWord own f) more →
-        AllByRecursion (IsGoodOrder own r e.granted) down →
-        ((y : Pmac) → same_pmac y x ≡ false → list_any (recalls y) e.down ≡ true → list_any (recalls y) down ≡ true) →
-        IsGoodGrant own r (e.up ++ more) down x g →
-        ((y : Pmac) (h : Grant) → same_pmac y x ≡ false → e.granted y ≡ Some h → g.in_use ≡ true → g.amac ≡ h.amac → x.port ≡ y.port → y.vmid ≤ x.vmid) →
-        ((y : Pmac) (h : Grant) → same_pmac y x ≡ false → e.granted y ≡ Some h → h.in_use ≡ true → h.amac ≡ g.amac → y.port ≡ x.port → x.vmid ≤ y.vmid) →
+        AllByRecursion (IsGoodOrder own e.granted) down →
+        ((y : Pmac) → same_pmac y x ≡ false → words_of y more ≡ []) → ((y : Pmac) → same_pmac y x ≡ false → orders_of y down ≡ orders_of y e.down) →
+        IsGoodGrant own r (e.up ++ more) x g → Phase (tenure_at r (record e { granted = f; up = e.up ++ more; down = down }) x) →
         IsGoodEdge own r (record e { granted = f; up = e.up ++ more; down = down })
-    changed same words orders recalled new above below = record {
+    changed same words orders silent kept new phase = record {
       placed = λ y h is. elim (is_or_other y x) [
         | inl it ↦ ap e.at it ∙ here
         | inr other ↦ good.placed y h (sym (others y other) ∙ is)
@@ -134,27 +119,16 @@ module _ (own : Mac → Option Ip4) (r : Registry) where
       grants = λ y h is. elim (is_or_other y x) [
         | inl it ↦
             let grant : g ≡ h = same_Some g h (sym now ∙ ap f (sym it) ∙ is) in
-            subst (λ (z : Pmac). IsGoodGrant own r (e.up ++ more) down z h) (sym it) (subst (λ (k : Grant). IsGoodGrant own r (e.up ++ more) down x k) grant new)
-        | inr other ↦ grant_more e.up more e.down down y h (recalled y other) (good.grants y h (sym (others y other) ∙ is))
+            subst (λ (z : Pmac). IsGoodGrant own r (e.up ++ more) z h) (sym it) (subst (λ (k : Grant). IsGoodGrant own r (e.up ++ more) x k) grant new)
+        | inr other ↦ grant_more e.up more y h (good.grants y h (sym (others y other) ∙ is))
       ];
-      last = λ y z h k is at used mac port. elim (is_or_other y x) [
-        | inl it ↦ elim (is_or_other z x) [
-          | inl that ↦ subst (λ (n : ℕ). z.vmid ≤ n) (ap (λ (p : Pmac). p.vmid) (that ∙ sym it)) (le_refl z.vmid)
-          | inr other ↦
-              let grant : h ≡ g = same_Some h g (sym is ∙ ap f it ∙ now) in
-              subst (λ (n : ℕ). z.vmid ≤ n) (ap (λ (p : Pmac). p.vmid) (sym it))
-              (above z k other (sym (others z other) ∙ at) (ap (λ (q : Grant). q.in_use) (sym grant) ∙ used) (ap (λ (q : Grant). q.amac) (sym grant) ∙ mac)
-              (ap (λ (p : Pmac). p.port) (sym it) ∙ port))
-        ]
-        | inr other ↦ elim (is_or_other z x) [
-          | inl that ↦
-              let grant : k ≡ g = same_Some k g (sym at ∙ ap f that ∙ now) in
-              subst (λ (n : ℕ). n ≤ y.vmid) (ap (λ (p : Pmac). p.vmid) (sym that))
-              (below y h other (sym (others y other) ∙ is) used (mac ∙ ap (λ (q : Grant). q.amac) grant) (port ∙ ap (λ (p : Pmac). p.port) that))
-          | inr apart ↦ good.last y z h k (sym (others y other) ∙ is) (sym (others z apart) ∙ at) used mac port
-        ]
+      phases = λ y at. elim (is_or_other y x) [
+        | inl it ↦ subst (λ (z : Pmac). Phase (tenure_at r (record e { granted = f; up = e.up ++ more; down = down }) z)) (sym it) phase
+        | inr other ↦
+            phase_kept r r e (record e { granted = f; up = e.up ++ more; down = down }) y (knows_same r y) (others y other) (words_aside y e.up more (silent y other))
+            (kept y other) (good.phases y at)
       ];
       words = all_append (IsGoodWord own f) e.up more (words_kept own e.granted f (keeps_grantees same) e.up good.words) words;
-      orders = orders_kept own r r (λ y reg is. is) e.granted f (keeps_grantees same) down orders;
+      orders = orders_kept own e.granted f (keeps_grantees same) down orders;
       here = λ y reg is at. let h = good.here y reg is at in record { teller = h.teller; granted_to = keeps_grantees same y reg.amac h.granted_to };
     }

@@ -1,7 +1,7 @@
 -- What other crates may name of these proofs.
 pub use Rattle.pl_law_addresses.proofs.AddressesInRuns.{boots_in_order, granted_at_most_once, mark_quiet, one_step, run_in_order, since_then, step_in_order}
 pub use Rattle.pl_law_addresses.proofs.Asides.{changes_silent, floods_aside, forgets_members_aside, makes_aside, probes_aside, proposal_aside, switch_frame_aside, takes_in_aside, ticks_aside}
-pub use Rattle.pl_law_addresses.proofs.Consequences.{granted_once, served_is_registered}
+pub use Rattle.pl_law_addresses.proofs.Consequences.{granted_once, served_is_registered, trap_leads}
 pub use Rattle.pl_law_addresses.proofs.EventsKeepAddresses.{Facts, facts_of}
 pub use Rattle.pl_law_addresses.proofs.GrantsByNumber.{first_passes, granted_here, IsInUse, known_same, local_here, local_settled, none_passes, none_used, now_at, number_past, number_push_other, number_push_same, number_set_other, number_set_same, number_within, others_at, used_is}
 pub use Rattle.pl_law_addresses.proofs.OwnHosts.{own_frame}

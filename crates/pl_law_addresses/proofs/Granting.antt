@@ -1,6 +1,7 @@
 -- An edge switch grants addresses and learns IPv4 addresses.
 use Rattle.std.proofs.Common.{◌≡◌, ◌≤◌, ◌<◌, ◌+◌, ◌-◌, ℕ, ◌⊎◌, ◌||◌, zero, suc, Bool, true, false, if◌then◌else◌, get_or, set, List, [], ◌∷◌, ◌++◌, length, Option, Some, None, refl, sym, ap, subst, ◌∙◌, inl, inr, arith, get_or-set_other, length-set, append-nil}
 use Rattle.std.specs.List.{AllByRecursion, list_any}
+use Rattle.std.specs.Option.{option_map}
 use Rattle.std.proofs.lemmas.Bool.{and_from, cases_eq, cond_both, false≢true}
 use Rattle.std.proofs.lemmas.Option.{none-some, same_Some}
 use Rattle.pl_frame.specs.declared.address.Ip4.{Ip4}
@@ -13,6 +14,7 @@ use Rattle.pl_layouts.specs.Equality.{is_ip, same_mac, same_pmac}
 use Rattle.pl_layouts.specs.Placement.{is_known, is_placed}
 use Rattle.pl_layouts.proofs.Exports.{mac_is, pmac_itself}
 use Rattle.pl_node.specs.declared.acts.Act.TheVariants as act
+use Rattle.pl_node.specs.declared.address_use.AddressUse.{AddressUse}
 use Rattle.pl_node.specs.declared.messages.ToManager.{ToManager}
 use Rattle.pl_node.specs.declared.messages.ToManager.TheVariants as tell
 use Rattle.pl_node.specs.declared.messages.ToSwitch.{ToSwitch}
@@ -21,13 +23,17 @@ use Rattle.pl_node.specs.declared.switch_records.Source.{Source}
 use Rattle.pl_node.specs.SwitchViews.{SwitchView}
 use Rattle.pl_steps.specs.Steps.{SwitchStep, rests, ◌▹◌}
 use Rattle.pl_switch_rule.specs.Granting.{address_at_port, forgets, grant_number, granted, grants_at, grants_next, grants_or_learns, grants_remembered, grants_source, in_use, is_local, is_port_spent, learns_ip, learns_source, new_grant, or_else, remembered_at, remembered_ip, remembers, sender_ip, with_grant, with_grants}
-use Rattle.pl_switch_rule.proofs.Exports.{granted_parts}
 use Rattle.pl_law_addresses.specs.OwnAddresses.{IsOwnIp}
 use Rattle.pl_law_addresses.specs.Registries.{Registry}
-use Rattle.pl_law_addresses.specs.EdgeAddresses.{IsGoodAddressTable, edge_of, is_settled, tells, tells_ip}
-use Rattle.pl_law_addresses.proofs.AddressLemmas.{any_before, any_behind}
+use Rattle.pl_law_phases.specs.Phases.{Phase}
+use Rattle.pl_law_phases.specs.Tenures.{is_held, words_of}
+use Rattle.pl_law_phases.specs.Tenures.Told.{Learns}
+use Rattle.pl_law_phases.proofs.Exports.{granted_phase, in_use_for, told_phase}
+use Rattle.pl_law_addresses.specs.EdgeAddresses.{IsGoodAddressTable, edge_of, is_settled, tells_ip, tenure_at}
+use Rattle.pl_law_addresses.proofs.AddressLemmas.{any_behind, other_turned}
 use Rattle.pl_law_addresses.proofs.ChangesKeepAddresses.{changed, keeps_grantees}
-use Rattle.pl_law_addresses.proofs.GrantsByNumber.{IsInUse, granted_here, local_here, none_used, now_at, number_past, number_push_other, number_push_same, number_set_other, number_set_same, number_within, others_at, used_is}
+use Rattle.pl_law_addresses.proofs.GrantsByNumber.{IsInUse, granted_here, local_here, now_at, number_past, number_push_other, number_push_same, number_set_other, number_set_same, number_within, others_at, used_is}
+use Rattle.pl_law_addresses.proofs.PhasesStay.{other_word, phase_told}
 use Rattle.pl_law_addresses.proofs.RowsLeaveAddresses.{Good, Grows, Keeps, keeps_either, keeps_then, rests_keeps}
 
 -- ---- the lists of a switch
@@ -91,7 +97,7 @@ source_stays v port (Some s) = mac_stays v port s.amac s.ip (in_use (grants_at v
 module _ (own : Mac → Option Ip4) (r : Registry) (id : Option SwitchId) (down : List ToSwitch) where
   -- ---- the next address of a port
   module _ (v : SwitchView) (port : ℕ) (mac : Mac) (ip : Option Ip4) (settled : is_settled v.place ≡ true) (within : port < v.k)
-      (is_own : IsOwnIp own mac ip) (free : in_use (grants_at v port) mac ≡ None) where
+      (is_own : IsOwnIp own mac ip) where
     x : Pmac
     x = address_at_port v port (length (grants_at v port) + 1)
 
@@ -114,31 +120,19 @@ module _ (own : Mac → Option Ip4) (r : Registry) (id : Option SwitchId) (down 
           edge = changed own r (edge_of id v up down) good.edge x (new_grant mac ip) (λ y. granted (with_grants v port new) y) (word ∷ []) down here now others
               (λ h is. absurd (none-some h (sym none ∙ is)))
               ((record { grant = new_grant mac ip; found = now; to = refl }, is_own), tt)
-              good.edge.orders (λ y other h. h)
+              good.edge.orders (λ y other. other_word x y mac ip (other_turned y x other)) (λ y other. refl)
               (record {
                 own_ip = is_own;
-                free = λ used. refl;
-                told = λ used unknown. any_behind (tells x) up (word ∷ []) (told_now);
                 told_ip = λ used j is. inr (any_behind (tells_ip x) up (word ∷ []) (ip_told ip j is));
-                current = λ used reg is.
-                    let those = (good.edge.here x reg is here).granted_to in absurd (none-some those.grant (sym none ∙ those.found));
-                trapped = λ trap is. absurd (none-some trap is);
+                trap_ip = λ trap is. absurd (none-some trap is);
               })
-              (λ y h other is used same ports.
-              let parts = granted_parts v y h is in
-              let most = (number_within (grants_at v y.port) y.vmid h parts.1).1 in
-              let few : y.vmid ≤ length (grants_at v port) = subst (λ (p : ℕ). y.vmid ≤ length (grants_at v p)) (sym ports) most in
-              omega (arith, few))
-              (λ y h other is used same ports.
-              let parts = granted_parts v y h is in
-              absurd (none_used (grants_at v port) mac free y.vmid h (ap (λ (p : ℕ). grant_number (grants_at v p) y.vmid) (sym ports) ∙ parts.1) used same));
+              (phase_told r (edge_of id v up down) x (new_grant mac ip) (λ y. granted (with_grants v port new) y) mac ip now
+              (granted_phase (tenure_at r (edge_of id v up down) x) (good.edge.phases x here)
+              (ap (λ (o : Option Grant). is_held (option_map (λ (g : Grant). g.held) o)) none)));
           address_table = address_table_with_grants own v port new settled good.address_table;
         } in
         before (granted_here v x here ∙ number_past (grants_at v port))
       where
-        told_now : list_any (tells x) (word ∷ []) ≡ true
-        told_now = ap (λ b. b || false) (pmac_itself x)
-
         ip_told : (i : Option Ip4) (j : Ip4) → i ≡ Some j → list_any (tells_ip x) (tell.Learned x mac i ∷ []) ≡ true
         ip_told None j is = absurd (none-some j is)
         ip_told (Some i) j is = ap (λ b. b || false) (pmac_itself x)
@@ -188,21 +182,21 @@ module _ (own : Mac → Option Ip4) (r : Registry) (id : Option SwitchId) (down 
         others_at v old list many here (λ n other. number_set_other (grants_at v port) vmid n known some other) in
         let its : IsOwnIp own u.grant.amac (Some ip) = subst (λ (m : Mac). IsOwnIp own m (Some ip)) (sym u.mac_is) is_own in
         let it = good.edge.grants old u.grant was in
+        let busy = in_use_for u.grant.held u.used in
         record {
           edge = changed own r (edge_of id v up down) good.edge old known (λ z. granted (with_grants v port list) z) (said ∷ []) down here now others
               (λ h is. ap (λ (g : Grant). g.amac) (same_Some u.grant h (sym was ∙ is)))
               ((record { grant = known; found = now; to = refl }, its), tt)
-              good.edge.orders (λ z other h. h)
+              good.edge.orders (λ z other. other_word old z u.grant.amac (Some ip) (other_turned z old other)) (λ z other. refl)
               (record {
                 own_ip = its;
-                free = it.free;
-                told = λ used unknown. any_before (tells old) up (said ∷ []) (it.told used unknown);
                 told_ip = λ used j is. inr (any_behind (tells_ip old) up (said ∷ []) (ap (λ b. b || false) (pmac_itself old)));
-                current = it.current;
-                trapped = it.trapped;
+                trap_ip = it.trap_ip;
               })
-              (λ z h other is used same ports. good.edge.last old z u.grant h was is u.used same ports)
-              (λ z h other is used same ports. good.edge.last z old h u.grant is was used same ports);
+              (phase_told r (edge_of id v up down) old known (λ z. granted (with_grants v port list) z) u.grant.amac (Some ip) now
+              (subst (λ (h : AddressUse). Phase (record (tenure_at r (edge_of id v up down) old) { held = Some h; up = words_of old up ++ Learns ∷ [] })) (sym busy.1)
+              (told_phase (tenure_at r (edge_of id v up down) old) (good.edge.phases old here) busy.0 busy.0
+              (ap (λ (o : Option Grant). option_map (λ (g : Grant). g.held) o) was ∙ ap Some busy.1))));
           address_table = address_table_with_grants own v port list settled good.address_table;
         }
 
@@ -244,7 +238,7 @@ module _ (own : Mac → Option Ip4) (r : Registry) (id : Option SwitchId) (down 
         subst (λ (o : Option Grant). Keeps own r id down v (learns_ip v (address_at_port v port vmid) o ip)) (sym u.found) (keeps_known vmid ip is_own u)
     keeps_source ip is_own None is =
         keeps_either own r id down v (is_port_spent v port) (rests v) (grants_next v port mac ip) (λ spent. rests_keeps own r id down v)
-        (λ room. keeps_next v port mac ip settled within is_own is)
+        (λ room. keeps_next v port mac ip settled within is_own)
 
     pub keeps_grants_or_learns : (ip : Option Ip4) → IsOwnIp own mac ip → Keeps own r id down v (grants_or_learns v port mac ip (in_use (grants_at v port) mac))
     keeps_grants_or_learns ip is_own = keeps_source ip is_own (in_use (grants_at v port) mac) refl

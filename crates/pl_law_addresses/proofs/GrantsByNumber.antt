@@ -9,6 +9,7 @@ use Rattle.pl_layouts.specs.declared.place.Place.{Place}
 use Rattle.pl_layouts.specs.Equality.{same_mac, same_pmac}
 use Rattle.pl_layouts.specs.Placement.{is_known, is_placed}
 use Rattle.pl_layouts.proofs.Exports.{known_is, mac_is, mac_itself}
+use Rattle.pl_node.specs.AddressUses.{is_in_use}
 use Rattle.pl_node.specs.declared.switch_records.Grant.{Grant}
 use Rattle.pl_node.specs.SwitchViews.{SwitchView}
 use Rattle.pl_switch_rule.specs.Granting.{address_at_port, grant_number, granted, grants_at, in_use, is_local, with_grants}
@@ -107,14 +108,14 @@ none_passes {X = X} t (y ∷ xs) i h j x is = by (λ k. none_passes t xs (i + 1)
 pub record IsInUse (gs : List Grant) (mac : Mac) (vmid : ℕ) : Type 0 where
   pub grant : Grant
   pub found : grant_number gs vmid ≡ Some grant
-  pub used : grant.in_use ≡ true
+  pub used : is_in_use grant.held ≡ true
   pub mac_is : grant.amac ≡ mac
 
 pub used_is : (gs : List Grant) (mac : Mac) (vmid : ℕ) → in_use gs mac ≡ Some vmid → IsInUse gs mac vmid
 used_is gs mac vmid h =
-    let f = first_passes (λ (g : Grant). g.in_use && same_mac g.amac mac) gs 1 vmid h in
+    let f = first_passes (λ (g : Grant). is_in_use g.held && same_mac g.amac mac) gs 1 vmid h in
     let it = f.is in let one : vmid ≡ suc f.at = omega (arith, it) in
-    let both = and_parts f.item.in_use (same_mac f.item.amac mac) f.passes in
+    let both = and_parts (is_in_use f.item.held) (same_mac f.item.amac mac) f.passes in
     record {
       grant = f.item;
       found = ap (λ n. grant_number gs n) one ∙ number_one_more gs f.at ∙ f.found;
@@ -122,11 +123,11 @@ used_is gs mac vmid h =
       mac_is = mac_is f.item.amac mac both.1;
     }
 
-pub none_used : (gs : List Grant) (mac : Mac) → in_use gs mac ≡ None → (n : ℕ) (g : Grant) → grant_number gs n ≡ Some g → g.in_use ≡ true → g.amac ≡ mac → ⊥
+pub none_used : (gs : List Grant) (mac : Mac) → in_use gs mac ≡ None → (n : ℕ) (g : Grant) → grant_number gs n ≡ Some g → is_in_use g.held ≡ true → g.amac ≡ mac → ⊥
 none_used gs mac h zero g is used same = absurd (none-some g is)
 none_used gs mac h (suc n) g is used same =
-    let fails = none_passes (λ (q : Grant). q.in_use && same_mac q.amac mac) gs 1 h n g (sym (number_one_more gs n) ∙ is) in
-    false≢true (sym fails ∙ and_from g.in_use (same_mac g.amac mac) used (subst (λ (m : Mac). same_mac g.amac m ≡ true) same (mac_itself g.amac)))
+    let fails = none_passes (λ (q : Grant). is_in_use q.held && same_mac q.amac mac) gs 1 h n g (sym (number_one_more gs n) ∙ is) in
+    false≢true (sym fails ∙ and_from (is_in_use g.held) (same_mac g.amac mac) used (subst (λ (m : Mac). same_mac g.amac m ≡ true) same (mac_itself g.amac)))
 
 -- ---- places
 

@@ -1,4 +1,5 @@
 pub mod AddressLemmas
+pub mod PhasesStay
 pub mod ChangesKeepAddresses
 pub mod GrantsByNumber
 pub mod RowsLeaveAddresses
@@ -10,6 +11,7 @@ pub mod SwitchSteps
 pub mod Stepped
 pub mod Entries
 pub mod TurnQueues
+pub mod Recalling
 pub mod Registering
 pub mod EdgeHears
 pub mod SaidByManager

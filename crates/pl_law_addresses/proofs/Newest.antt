@@ -1,13 +1,17 @@
 -- The newest address of a host has the largest number.
-use Rattle.std.proofs.Common.{◌≡◌, ◌≤◌, ◌+◌, Bool, true, false, cond, List, [], ◌∷◌, length, Option, Some, refl, sym, ap, subst, ◌∙◌, arith}
+use Rattle.std.proofs.Common.{◌≡◌, ◌≤◌, ◌+◌, ℕ, Bool, true, false, cond, List, [], ◌∷◌, length, Option, Some, refl, sym, ap, subst, ◌∙◌, arith}
 use Rattle.std.specs.List.{find, list_any}
-use Rattle.std.proofs.lemmas.Bool.{false≢true}
+use Rattle.std.proofs.lemmas.Bool.{cond_both, false≢true}
 use Rattle.std.proofs.lemmas.Option.{none-some, same_Some}
 use Rattle.pl_frame.specs.declared.address.Mac.{Mac}
 use Rattle.pl_pmac.specs.declared.pmac.Pmac.{Pmac}
 use Rattle.pl_layouts.specs.Equality.{same_mac, same_pmac}
 use Rattle.pl_layouts.proofs.Exports.{mac_itself}
-use Rattle.pl_node.specs.ManagerViews.{LearntAddress, Registration, numbered}
+use Rattle.pl_node.specs.declared.messages.ToManager.{ToManager}
+use Rattle.pl_node.specs.declared.messages.ToManager.TheVariants as tell
+use Rattle.pl_node.specs.ManagerViews.{Registration, newest, registration}
+use Rattle.pl_manager_rule.specs.Histories.{Word, known, registered, registered_after}
+use Rattle.pl_manager_rule.proofs.Exports.{newest_is_first, registrations_are_told}
 
 abbrev at : List Registration → Pmac → Option Registration
 at rs x = find (λ r. same_pmac r.pmac x) rs
@@ -43,15 +47,24 @@ module _ (new : Registration) (rs : List Registration) (is_next : new.number ≡
     top = λ x reg first is one. top_by x reg first (same_pmac new.pmac x) (same_mac new.amac reg.amac) refl is one;
   }
 
-are_numbered : (addresses : List LearntAddress) → AreNumbered (numbered addresses)
+are_numbered : (words : List Word) → AreNumbered (registered words)
 are_numbered [] = none_numbered
-are_numbered (a ∷ addresses) = by (are_numbered addresses) (list_any (λ r. same_pmac r.pmac a.pmac) (numbered addresses))
+are_numbered (w ∷ before) = by (are_numbered before) w.says
   where
-    by : AreNumbered (numbered addresses) → (b : Bool) →
-        AreNumbered (cond b (numbered addresses) (record { pmac = a.pmac; amac = a.amac; number = length (numbered addresses) + 1; switch = a.switch } ∷ numbered addresses))
-    by before true = before
-    by before false = one_more (record { pmac = a.pmac; amac = a.amac; number = length (numbered addresses) + 1; switch = a.switch }) (numbered addresses) refl before
+    by : AreNumbered (registered before) → (says : ToManager) → AreNumbered (registered_after (registered before) w.switch says)
+    by all (tell.Learned pmac amac ip) =
+        let rs = registered before in
+        let new : Registration = record { pmac = pmac; amac = amac; number = length rs + 1; switch = w.switch } in
+        cond_both (list_any (λ r. same_pmac r.pmac pmac) rs) rs (new ∷ rs) AreNumbered (λ again. all) (λ fresh. one_more new rs refl all)
+    by all tell.PodWanted = all
+    by all (tell.Place place) = all
+    by all (tell.Link u usable) = all
+    by all (tell.Query asker asker_ip ip) = all
+    by all (tell.Members group any) = all
 
-pub newest_is_largest : (addresses : List LearntAddress) (x : Pmac) (reg first : Registration) → find (λ r. same_pmac r.pmac x) (numbered addresses) ≡ Some reg →
-    find (λ r. same_mac r.amac reg.amac) (numbered addresses) ≡ Some first → reg.number ≤ first.number
-newest_is_largest addresses x reg first is one = (are_numbered addresses).top x reg first is one
+pub newest_is_largest : (k : ℕ) (words : List Word) (x : Pmac) (reg first : Registration) → registration (known k words).learnt x ≡ Some reg →
+    newest (known k words).learnt reg.amac ≡ Some first → reg.number ≤ first.number
+newest_is_largest k words x reg first is one =
+    let told = registrations_are_told k words in
+    (are_numbered words).top x reg first (sym (ap (λ (rs : List Registration). at rs x) told) ∙ is)
+    (sym (newest_is_first k words reg.amac ∙ ap (λ (rs : List Registration). of rs reg.amac) told) ∙ one)

@@ -26,11 +26,12 @@ use Rattle.pl_switch_rule.specs.Positions.{after_vote, counted, fixes_position, 
 use Rattle.pl_switch_rule.specs.Telling.{changes_told}
 use Rattle.pl_switch_rule.proofs.Exports.{all_range, none_granted}
 use Rattle.pl_law_addresses.specs.Registries.{Registry}
-use Rattle.pl_law_addresses.specs.EdgeAddresses.{KeepsGrantees, is_settled}
+use Rattle.pl_law_addresses.specs.EdgeAddresses.{KeepsGrantees, edge_of, is_settled}
 use Rattle.pl_law_addresses.proofs.Asides.{changes_silent}
 use Rattle.pl_law_addresses.proofs.ChangesKeepAddresses.{orders_kept, words_kept}
 use Rattle.pl_law_addresses.proofs.Granting.{keeps_grants_remembered}
 use Rattle.pl_law_addresses.proofs.GrantsByNumber.{settled_is}
+use Rattle.pl_law_addresses.proofs.PhasesStay.{KnowsNothing, ungranted_phase}
 use Rattle.pl_law_addresses.proofs.RowsLeaveAddresses.{Good, Grows, LeavesAddresses, Keeps, aside_does, aside_keeps, grows_from, grows_then, keeps_either, keeps_then, rests_keeps, same_good, same_grantees, told_append, told_by}
 
 -- an address has this place
@@ -45,24 +46,26 @@ pub record IsPlacing (v w : SwitchView) : Type 0 where
   pub place : is_settled v.place ≡ true → w.place ≡ v.place
 
 abbrev pub IsUnknown : Registry → SwitchView → Place → Type 0
-IsUnknown r v place = is_settled v.place ≡ false → (x : Pmac) → has_place place x ≡ true → r.at x ≡ None
+IsUnknown r v place = is_settled v.place ≡ false → (x : Pmac) → has_place place x ≡ true → KnowsNothing r x
 
 module _ (own : Mac → Option Ip4) (r : Registry) (id : Option SwitchId) (down : List ToSwitch) where
-  new_place : (v w : SwitchView) (up : List ToManager) → IsPlacing v w → is_settled v.place ≡ false → ((x : Pmac) → is_local w x ≡ true → r.at x ≡ None) →
+  new_place : (v w : SwitchView) (up : List ToManager) → IsPlacing v w → is_settled v.place ≡ false → ((x : Pmac) → is_local w x ≡ true → KnowsNothing r x) →
       Good own r id down v up → Good own r id down w up
   new_place v w up p unsettled unknown good =
       let empty : (port : ℕ) → grants_at w port ≡ [] = λ port. ap (λ (gs : List (List Grant)). get_or gs port []) p.grants ∙ good.address_table.empty unsettled port in
       let none : (x : Pmac) → granted w x ≡ None = λ x. none_granted w x (empty x.port) in
       let was_none : (x : Pmac) → granted v x ≡ None = λ x. none_granted v x (good.address_table.empty unsettled x.port) in
       let keeps : KeepsGrantees (λ x. granted v x) (λ x. granted w x) = λ x mac is. absurd (none-some is.grant (sym (was_none x) ∙ is.found)) in
+      let words = words_kept own (λ x. granted v x) (λ x. granted w x) keeps up good.edge.words in
+      let orders = orders_kept own (λ x. granted v x) (λ x. granted w x) keeps down good.edge.orders in
       record {
         edge = record {
           placed = λ x g is. absurd (none-some g (sym (none x) ∙ is));
           grants = λ x g is. absurd (none-some g (sym (none x) ∙ is));
-          last = λ x y g h is at used mac port. absurd (none-some g (sym (none x) ∙ is));
-          words = words_kept own (λ x. granted v x) (λ x. granted w x) keeps up good.edge.words;
-          orders = orders_kept own r r (λ x reg is. is) (λ x. granted v x) (λ x. granted w x) keeps down good.edge.orders;
-          here = λ x reg is at. absurd (none-some reg (sym (unknown x at) ∙ is));
+          phases = λ x at. ungranted_phase own r (edge_of id w up down) x (none x) words orders (unknown x at);
+          words = words;
+          orders = orders;
+          here = λ x reg is at. absurd (none-some reg (sym (unknown x at).at ∙ is));
         };
         address_table = record {
           many = ap (λ (gs : List (List Grant)). length gs) p.grants ∙ good.address_table.many ∙ sym p.k;

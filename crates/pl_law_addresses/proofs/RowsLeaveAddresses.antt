@@ -21,6 +21,7 @@ use Rattle.pl_layouts.specs.Equality.{same_pmac}
 use Rattle.pl_layouts.proofs.Exports.{pmac_is}
 use Rattle.pl_steps.specs.Steps.{SwitchStep, does, rests, ◌▹◌}
 use Rattle.pl_switch_rule.specs.Granting.{granted}
+use Rattle.pl_law_phases.specs.Tenures.{told_of, words_of}
 use Rattle.pl_law_addresses.specs.Registries.{Registry}
 use Rattle.pl_law_addresses.specs.EdgeAddresses.{Edge, IsGoodAddressTable, IsGoodEdge, IsGoodWord, IsGrantedTo, KeepsGrantees, edge_of, is_settled}
 use Rattle.pl_law_addresses.proofs.ChangesKeepAddresses.{tells_more}
@@ -62,6 +63,16 @@ silent_words own f [] are = tt
 silent_words own f (act.Tell told ∷ acts) are = (silent_word own f told are.0, silent_words own f acts are.1)
 silent_words own f (act.Grant pmac amac ∷ acts) are = absurd are.0
 silent_words own f (a ∷ acts) are = silent_words own f acts are.1
+
+told_silent : (x : Pmac) (told : ToManager) → IsSilentWord told → told_of x told ≡ []
+told_silent x (tell.Learned pmac amac ip) is = absurd is
+told_silent x told is = refl
+
+words_silent : (acts : List Act) → AreSilent acts → (x : Pmac) → words_of x (told_by acts) ≡ []
+words_silent [] are x = refl
+words_silent (act.Tell told ∷ acts) are x = ap (λ ws. ws ++ words_of x (told_by acts)) (told_silent x told are.0) ∙ words_silent acts are.1 x
+words_silent (act.Grant pmac amac ∷ acts) are x = absurd are.0
+words_silent (a ∷ acts) are x = words_silent acts are.1 x
 
 -- ---- a part that leaves addresses alone
 pub record LeavesAddresses (v : SwitchView) (s : SwitchStep) : Type 0 where
@@ -235,7 +246,7 @@ module _ (own : Mac → Option Ip4) (r : Registry) (id : Option SwitchId) (down 
   pub aside_keeps : (v : SwitchView) (s : SwitchStep) → LeavesAddresses v s → Keeps v s
   aside_keeps v s a = record {
     good = λ up good. let same = same_good v s.view up a.place a.k a.grants a.remembered good in record {
-      edge = tells_more own r (edge_of id s.view up down) (told_by s.acts) (silent_words own (edge_of id s.view up down).granted s.acts a.silent) same.edge;
+      edge = tells_more own r (edge_of id s.view up down) (told_by s.acts) (silent_words own (edge_of id s.view up down).granted s.acts a.silent) (words_silent s.acts a.silent) same.edge;
       address_table = same.address_table;
     };
     grows = λ up good. grows_aside v s a;

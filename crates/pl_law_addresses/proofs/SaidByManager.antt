@@ -1,6 +1,6 @@
 -- What the acts of the fabric manager put into the queues from it.
-use Rattle.std.proofs.Common.{◌≡◌, ◌≢◌, ℕ, Bool, true, List, [], ◌∷◌, ◌++◌, fold, length, map, Option, Some, None, slice_get, refl, sym, ap, subst, ◌∙◌, inl, inr, arith, append_assoc, append-nil, eq-eqb, eqb-true, get_or-set_same, get_or-set_other, length-set, AllPairs, ◌≤◌}
-use Rattle.std.specs.List.{AllByRecursion, flat_map, list_any, position, position_from}
+use Rattle.std.proofs.Common.{◌≡◌, ◌≢◌, ℕ, List, [], ◌∷◌, ◌++◌, fold, length, map, Option, Some, None, slice_get, refl, sym, ap, subst, ◌∙◌, inl, inr, arith, append_assoc, append-nil, eq-eqb, eqb-true, get_or-set_same, get_or-set_other, length-set, AllPairs, ◌≤◌}
+use Rattle.std.specs.List.{AllByRecursion, flat_map, position, position_from}
 use Rattle.std.proofs.lemmas.Bool.{cases_eq, cases_lt, false≢true}
 use Rattle.std.proofs.lemmas.Iterator.Adapters.{position_from-zero}
 use Rattle.std.proofs.lemmas.List.{get_or_past}
@@ -19,7 +19,7 @@ use Rattle.pl_world.specs.OtherActs.{manager_act_done}
 use Rattle.pl_world.specs.Worlds.{WorldView}
 use Rattle.pl_law_addresses.proofs.GrantsByNumber.{first_passes, none_passes}
 use Rattle.pl_law_addresses.proofs.TurnQueues.{Parts, one_quiet, parts_of}
-use Rattle.pl_law_addresses.proofs.AddressLemmas.{any_before, one_index}
+use Rattle.pl_law_addresses.proofs.AddressLemmas.{one_index}
 
 abbrev pub said_at : List (List ToSwitch) → ToSwitch → Option ℕ → List (List ToSwitch)
 said_at down says None = down
@@ -109,17 +109,9 @@ module _ (plan : Plan) (P : ℕ → ToSwitch → Type 0) where
   said_flat_map f [] each = tt
   said_flat_map f (x ∷ xs) each = all_append IsSaid (f x) (flat_map f xs) (each x) (said_flat_map f xs each)
 
--- what waits goes on to wait
-abbrev Anything : ℕ → ToSwitch → Type 0
-Anything t says = Unit {0}
-
-all_anything : (plan : Plan) (acts : List ManagerAct) → AllByRecursion (IsSaid plan Anything) acts
-all_anything plan [] = tt
-all_anything plan (Say to says ∷ acts) = (λ t is. tt, all_anything plan acts)
-all_anything plan (Number x n ∷ acts) = (tt, all_anything plan acts)
-
-pub said_stays : (plan : Plan) (p : ToSwitch → Bool) (down : List (List ToSwitch)) (acts : List ManagerAct) (t : ℕ) → list_any p (items_at down t) ≡ true →
-    list_any p (items_at (all_said plan down acts) t) ≡ true
-said_stays plan p down acts t h =
-    let e = said_extra plan Anything down acts (all_anything plan acts) t in
-    ap (λ xs. list_any p xs) e.are ∙ any_before p (items_at down t) e.items h
+-- what is said of each message that is put there, where the one follows from the other
+pub said_weaker : (plan : Plan) (P Q : ℕ → ToSwitch → Type 0) → ((t : ℕ) (says : ToSwitch) → P t says → Q t says) → (acts : List ManagerAct) →
+    AllByRecursion (IsSaid plan P) acts → AllByRecursion (IsSaid plan Q) acts
+said_weaker plan P Q follows [] all = tt
+said_weaker plan P Q follows (Say to says ∷ acts) all = (λ t is. follows t says (all.0 t is), said_weaker plan P Q follows acts all.1)
+said_weaker plan P Q follows (Number x n ∷ acts) all = (tt, said_weaker plan P Q follows acts all.1)

@@ -18,6 +18,7 @@ use Rattle.pl_law_addresses.specs.EdgeAddresses.{IsGoodAddressTable, IsGoodEdge,
 use Rattle.pl_law_addresses.specs.Addressed.{AreAddressed, AreApart}
 use Rattle.pl_law_addresses.proofs.GrantsByNumber.{local_settled}
 use Rattle.pl_law_addresses.proofs.Placing.{IsUnknown, has_place}
+use Rattle.pl_law_addresses.proofs.Registering.{unknown_at}
 use Rattle.pl_law_addresses.proofs.RowsLeaveAddresses.{Good}
 use Rattle.pl_law_addresses.proofs.AddressLemmas.{get-set_other, get-set_same}
 
@@ -37,7 +38,7 @@ module _ (plan : Plan) (manager : ManagerView) (switches : List SwitchView) (up 
 
   -- an address of a place that is new is registered for nobody
   pub unknown_there : IsUnknown (registry_of manager.learnt) v after.place
-  unknown_there unsettled x at = none_registered (registration manager.learnt x) refl
+  unknown_there unsettled x at = unknown_at manager.learnt x (none_registered (registration manager.learnt x) refl)
     where
       none_registered : (o : Option Registration) → registration manager.learnt x ≡ o → registration manager.learnt x ≡ None
       none_registered None is = is

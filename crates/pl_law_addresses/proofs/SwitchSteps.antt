@@ -1,6 +1,6 @@
 -- Each row of a switch keeps its addresses in order.
 use Rattle.std.proofs.Common.{◌≡◌, ◌<◌, ◌||◌, ℕ, true, false, List, [], ◌∷◌, ◌++◌, length, Option, Some, Result, Ok, Err, refl, sym, ap, subst, ◌∙◌, inl, inr, arith}
-use Rattle.std.proofs.lemmas.Bool.{cases_lt, cond_both, false≢true}
+use Rattle.std.proofs.lemmas.Bool.{cases_lt, cond_both}
 use Rattle.std.proofs.lemmas.List.{get_or_past}
 use Rattle.pl_frame.specs.declared.address.Ip4.{Ip4}
 use Rattle.pl_frame.specs.declared.address.Mac.{Mac}
@@ -23,7 +23,6 @@ use Rattle.pl_layouts.specs.declared.control.ControlError.{ControlError}
 use Rattle.pl_layouts.specs.declared.place.Place.{Place}
 use Rattle.pl_layouts.specs.Control.{control_in, is_control}
 use Rattle.pl_layouts.specs.Placement.{is_known}
-use Rattle.pl_layouts.proofs.Exports.{pmac_itself}
 use Rattle.pl_steps.specs.Steps.{SwitchStep, does, rests, ◌▹◌}
 use Rattle.pl_switch_rule.specs.Announcing.{ticks}
 use Rattle.pl_switch_rule.specs.Forwarding.{Choice}
@@ -37,7 +36,10 @@ use Rattle.pl_switch_rule.specs.SwitchRule.{comes_from_switch, control_comes, da
 use Rattle.pl_switch_rule.proofs.Exports.{granted_parts}
 use Rattle.pl_law_addresses.specs.OwnAddresses.{IsOwnIp}
 use Rattle.pl_law_addresses.specs.Registries.{Registry}
-use Rattle.pl_law_addresses.specs.EdgeAddresses.{IsGoodRecall, edge_of, is_settled, recalls}
+use Rattle.pl_law_phases.specs.Tenures.{order_of}
+use Rattle.pl_law_phases.specs.Tenures.Order.{Recalls}
+use Rattle.pl_law_phases.proofs.Exports.{ordered_here}
+use Rattle.pl_law_addresses.specs.EdgeAddresses.{IsGoodRecall, edge_of, is_settled}
 use Rattle.pl_law_addresses.proofs.Asides.{floods_aside, makes_aside, proposal_aside, switch_frame_aside, takes_in_aside, ticks_aside}
 use Rattle.pl_law_addresses.proofs.ChangesKeepAddresses.{takes_order}
 use Rattle.pl_law_addresses.proofs.Granting.{keeps_learns_source}
@@ -99,7 +101,7 @@ module _ (own : Mac → Option Ip4) (r : Registry) (id : Option SwitchId) (choos
         (λ host. host_frame v port frame (fair other host))
         (λ h. aside_steps own r id down v (comes_from_switch choose v port frame) (switch_frame_aside choose v port frame)))
 
-    says_row : (v : SwitchView) (says : ToSwitch) → ((x : Pmac) → recalls x says ≡ false) → Steps own r id down v (hears_manager choose v says)
+    says_row : (v : SwitchView) (says : ToSwitch) → ((x : Pmac) → order_of x says ≡ []) → Steps own r id down v (hears_manager choose v says)
     says_row v (say.Pod pod) quiet =
         cond_both (takes_pod v pod) (changes_to v (with_pod v (Some pod))) (rests v) (Steps own r id down v)
         (λ takes. steps_changes own r id down v (with_pod v (Some pod)) (pod_placing v pod takes))
@@ -116,7 +118,7 @@ module _ (own : Mac → Option Ip4) (r : Registry) (id : Option SwitchId) (choos
         steps_either own r id down v (is_granted v asker) (floods v (flood_frame asker asker_ip ip)) (rests v)
         (λ h. aside_steps own r id down v (floods v (flood_frame asker asker_ip ip)) (floods_aside v (flood_frame asker asker_ip ip)))
         (λ h. keeps_steps own r id down v (rests v) (rests_keeps own r id down v))
-    says_row v (say.Invalidate old new number ip) quiet = absurd (false≢true (sym (quiet old) ∙ pmac_itself old))
+    says_row v (say.Invalidate old new number ip) quiet = let e : Recalls new number ∷ [] ≡ [] = sym (ordered_here old new number ip) ∙ quiet old in absurd (cc)
 
   -- what a step brings about, from what waited before it to what waits after it
   pub record Brings (before after : List ToSwitch) (v : SwitchView) (s : SwitchStep) : Type 0 where
@@ -135,7 +137,7 @@ module _ (own : Mac → Option Ip4) (r : Registry) (id : Option SwitchId) (choos
   pub brings_tick : (down : List ToSwitch) (v : SwitchView) → Brings down down v (switch_step choose v Tick)
   brings_tick down v = of_steps down v (ticks v) (aside_steps own r id down v (ticks v) (ticks_aside v))
 
-  quiet_order : (rest : List ToSwitch) (v : SwitchView) (says : ToSwitch) → ((x : Pmac) → recalls x says ≡ false) → Brings (says ∷ rest) rest v (hears_manager choose v says)
+  quiet_order : (rest : List ToSwitch) (v : SwitchView) (says : ToSwitch) → ((x : Pmac) → order_of x says ≡ []) → Brings (says ∷ rest) rest v (hears_manager choose v says)
   quiet_order rest v says quiet =
       let a = says_row rest v says quiet in
       record {
@@ -154,7 +156,7 @@ module _ (own : Mac → Option Ip4) (r : Registry) (id : Option SwitchId) (choos
       recalled : (up : List ToManager) → Good own r id (say.Invalidate old new number ip ∷ rest) v up →
           Invalidated own r id rest old new number ip v up (invalidates v old (record { new = new; number = number; ip = ip }) (granted v old))
       recalled up good =
-          let said : IsGoodRecall own r (λ z. granted v z) old new number ip = good.edge.orders.0 in
+          let said : IsGoodRecall own (λ z. granted v z) old ip = good.edge.orders.0 in
           recall_good own r id rest old new number ip v up good (granted_within v old said.granted_to.grant said.granted_to.found good.address_table.many)
   brings_order rest v (say.Pod pod) = quiet_order rest v (say.Pod pod) (λ x. refl)
   brings_order rest v (say.Avoid list) = quiet_order rest v (say.Avoid list) (λ x. refl)

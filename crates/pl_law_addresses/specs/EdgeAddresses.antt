@@ -1,5 +1,5 @@
 -- The addresses that one edge switch granted, and what waits between it and the fabric manager.
-use Rattle.std.specs.Prelude.{◌≡◌, ◌⊎◌, ◌≤◌, ℕ, ◌&&◌, Bool, true, false, List, length, Option, Some, None, [], is_some}
+use Rattle.std.specs.Prelude.{◌≡◌, ◌⊎◌, ℕ, ◌&&◌, Bool, true, false, List, length, Option, Some, [], is_some, option_map}
 use Rattle.std.specs.List.{AllByRecursion, list_any}
 use Rattle.pl_frame.specs.declared.address.Ip4.{Ip4}
 use Rattle.pl_frame.specs.declared.address.Mac.{Mac}
@@ -12,14 +12,17 @@ use Rattle.pl_node.specs.declared.messages.ToManager.{ToManager}
 use Rattle.pl_node.specs.declared.messages.ToManager.TheVariants as tell
 use Rattle.pl_node.specs.declared.messages.ToSwitch.{ToSwitch}
 use Rattle.pl_node.specs.declared.messages.ToSwitch.TheVariants as say
+use Rattle.pl_node.specs.AddressUses.{is_in_use, standing_trap}
 use Rattle.pl_node.specs.declared.switch_records.Grant.{Grant}
 use Rattle.pl_node.specs.declared.switch_records.Source.{Source}
 use Rattle.pl_node.specs.declared.trap.Trap.{Trap}
 use Rattle.pl_node.specs.ManagerViews.{Registration}
 use Rattle.pl_node.specs.SwitchViews.{SwitchView}
 use Rattle.pl_switch_rule.specs.Granting.{granted, grants_at, is_granted, is_local, remembered_at}
+use Rattle.pl_law_phases.specs.Phases.{Phase}
+use Rattle.pl_law_phases.specs.Tenures.{Tenure, orders_of, words_of}
 use Rattle.pl_law_addresses.specs.OwnAddresses.{IsOwnIp}
-use Rattle.pl_law_addresses.specs.Registries.{LeadsToNewer, Registry}
+use Rattle.pl_law_addresses.specs.Registries.{Registry}
 
 -- an address is live at an edge switch once it was granted there: none is freed
 abbrev pub is_live : SwitchView → Pmac → Bool
@@ -54,6 +57,17 @@ pub record Edge : Type 0 where
 abbrev pub edge_of : Option SwitchId → SwitchView → List ToManager → List ToSwitch → Edge
 edge_of id v up down = record { id = id; at = λ x. is_local v x; granted = λ x. granted v x; up = up; down = down }
 
+-- what stands about an address of its place
+abbrev pub tenure_at : Registry → Edge → Pmac → Tenure
+tenure_at r e x = record {
+  held = option_map (λ g. g.held) (e.granted x);
+  up = words_of x e.up;
+  down = orders_of x e.down;
+  reg = r.at x;
+  recall = r.recall_at x;
+  aged = r.aged_at x;
+}
+
 -- an address was granted to this host
 pub record IsGrantedTo (granted : Pmac → Option Grant) (x : Pmac) (mac : Mac) : Type 0 where
   pub grant : Grant
@@ -69,26 +83,22 @@ abbrev pub IsGoodWord : (Mac → Option Ip4) → (Pmac → Option Grant) → ToM
 IsGoodWord own granted (tell.Learned x amac ip) = IsGrantedTo granted x amac × IsOwnIp own amac ip
 IsGoodWord own granted says = Unit {0}
 
--- a newer address that is told of one that was granted here
-pub record IsGoodRecall (own : Mac → Option Ip4) (r : Registry) (granted : Pmac → Option Grant) (old new : Pmac) (number : ℕ) (ip : Option Ip4) : Type 0 where
+-- a newer address is told of one that was granted here, with that host's own IPv4 address
+pub record IsGoodRecall (own : Mac → Option Ip4) (granted : Pmac → Option Grant) (old : Pmac) (ip : Option Ip4) : Type 0 where
   pub mac : Mac
   pub granted_to : IsGrantedTo granted old mac
-  pub leads : LeadsToNewer r old new number mac
   pub own_ip : IsOwnIp own mac ip
 
-abbrev pub IsGoodOrder : (Mac → Option Ip4) → Registry → (Pmac → Option Grant) → ToSwitch → Type 0
-IsGoodOrder own r granted (say.Invalidate old new number ip) = IsGoodRecall own r granted old new number ip
-IsGoodOrder own r granted says = Unit {0}
+abbrev pub IsGoodOrder : (Mac → Option Ip4) → (Pmac → Option Grant) → ToSwitch → Type 0
+IsGoodOrder own granted (say.Invalidate old new number ip) = IsGoodRecall own granted old ip
+IsGoodOrder own granted says = Unit {0}
 
--- What was granted under an address. In use it has no trap; the manager was told it, and its IPv4 address, or is going to be; and where the
--- manager knows it, it is the newest of its host, or the edge switch is going to hear of a newer one. A trap leads to a newer address.
-pub record IsGoodGrant (own : Mac → Option Ip4) (r : Registry) (up : List ToManager) (down : List ToSwitch) (x : Pmac) (g : Grant) : Type 0 where
+-- What was granted under an address: the IPv4 addresses that are kept with it are its host's own, and in use the manager was told that of the
+-- grant, or is going to be.
+pub record IsGoodGrant (own : Mac → Option Ip4) (r : Registry) (up : List ToManager) (x : Pmac) (g : Grant) : Type 0 where
   pub own_ip : IsOwnIp own g.amac g.ip
-  pub free : g.in_use ≡ true → g.trap ≡ None
-  pub told : g.in_use ≡ true → r.at x ≡ None → list_any (tells x) up ≡ true
-  pub told_ip : g.in_use ≡ true → (ip : Ip4) → g.ip ≡ Some ip → (r.ip_at x ≡ Some ip) ⊎ (list_any (tells_ip x) up ≡ true)
-  pub current : g.in_use ≡ true → (reg : Registration) → r.at x ≡ Some reg → (r.newest_of g.amac ≡ Some reg) ⊎ (list_any (recalls x) down ≡ true)
-  pub trapped : (trap : Trap) → g.trap ≡ Some trap → LeadsToNewer r x trap.new trap.number g.amac × IsOwnIp own g.amac trap.ip
+  pub told_ip : is_in_use g.held ≡ true → (ip : Ip4) → g.ip ≡ Some ip → (r.ip_at x ≡ Some ip) ⊎ (list_any (tells_ip x) up ≡ true)
+  pub trap_ip : (trap : Trap) → standing_trap g.held ≡ Some trap → IsOwnIp own g.amac trap.ip
 
 -- a registered address of an edge switch was told by it, and is granted there to the host that it is registered for
 pub record IsRegisteredHere (e : Edge) (x : Pmac) (reg : Registration) : Type 0 where
@@ -98,11 +108,11 @@ pub record IsRegisteredHere (e : Edge) (x : Pmac) (reg : Registration) : Type 0 
 pub record IsGoodEdge (own : Mac → Option Ip4) (r : Registry) (e : Edge) : Type 0 where
   -- each grant carries the pod and the position of this edge switch
   pub placed : (x : Pmac) (g : Grant) → e.granted x ≡ Some g → e.at x ≡ true
-  pub grants : (x : Pmac) (g : Grant) → e.granted x ≡ Some g → IsGoodGrant own r e.up e.down x g
-  -- the address in use is the last one that was granted to its host on that port
-  pub last : (x y : Pmac) (g h : Grant) → e.granted x ≡ Some g → e.granted y ≡ Some h → g.in_use ≡ true → g.amac ≡ h.amac → x.port ≡ y.port → y.vmid ≤ x.vmid
+  pub grants : (x : Pmac) (g : Grant) → e.granted x ≡ Some g → IsGoodGrant own r e.up x g
+  -- each address of its place is in a phase: so an address in use is told or known, and is the newest of its host or recalled
+  pub phases : (x : Pmac) → e.at x ≡ true → Phase (tenure_at r e x)
   pub words : AllByRecursion (IsGoodWord own e.granted) e.up
-  pub orders : AllByRecursion (IsGoodOrder own r e.granted) e.down
+  pub orders : AllByRecursion (IsGoodOrder own e.granted) e.down
   pub here : (x : Pmac) (reg : Registration) → r.at x ≡ Some reg → e.at x ≡ true → IsRegisteredHere e x reg
 
 -- The lists of a switch: one of grants for each port, empty as long as the switch is no placed edge switch; and of the sources that it

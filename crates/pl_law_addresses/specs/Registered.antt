@@ -1,10 +1,11 @@
 -- When a host is served by the edge switch at its port, and when it is registered.
-use Rattle.std.specs.Prelude.{◌≡◌, ℕ, true, Some, None, [], ◌∷◌, slice_get, refl}
+use Rattle.std.specs.Prelude.{◌≡◌, ℕ, true, false, Some, None, [], ◌∷◌, slice_get, refl}
 use Rattle.pl_arp.specs.declared.cache.Me.{Me}
 use Rattle.pl_frame.specs.declared.address.Ip4.{Ip4}
 use Rattle.pl_frame.specs.declared.address.Mac.{Mac}
 use Rattle.pl_pmac.specs.declared.pmac.Pmac.{Pmac}
 use Rattle.pl_wiring.specs.declared.host.Host.{Host}
+use Rattle.pl_node.specs.AddressUses.{is_in_use}
 use Rattle.pl_node.specs.declared.switch_records.Grant.{Grant}
 use Rattle.pl_node.specs.ManagerViews.{Learnt, Registration, ip_of, newest, registration}
 use Rattle.pl_node.specs.SwitchViews.{SwitchView}
@@ -18,7 +19,7 @@ pub record IsServed (v : SwitchView) (port : ℕ) (me : Me) : Type 0 where
   pub grant : Grant
   pub found : granted v address ≡ Some grant
   pub at_port : address.port ≡ port
-  pub used : grant.in_use ≡ true
+  pub used : is_in_use grant.held ≡ true
   pub mac : grant.amac ≡ me.mac
   pub ip : grant.ip ≡ Some me.ip
 
@@ -44,7 +45,7 @@ pub record IsRegisteredBy (w : WorldView) (h : ℕ) (x : Pmac) : Type 0 where
   pub there : slice_get w.switches attachment.edge.0 ≡ Some edge
   pub grant : Grant
   pub found : granted edge x ≡ Some grant
-  pub used : grant.in_use ≡ true
+  pub used : is_in_use grant.held ≡ true
   pub by_host : grant.amac ≡ host.mac
   pub at_port : x.port ≡ attachment.port
   pub knows_ip : KnowsIp w.manager.learnt host.mac host.ip
@@ -60,20 +61,43 @@ pub record IsRegisteredWithIp (w : WorldView) (h : ℕ) : Type 0 where
   pub at_edge : by.grant.ip ≡ Some by.host.ip
   pub at_manager : ip_of w.manager.learnt address ≡ Some by.host.ip
 
+abbrev first_address : Pmac
+first_address = record { pod = 0; position = 0; port = 0; vmid = 1 }
+
+abbrev later_address : Pmac
+later_address = record { pod = 0; position = 0; port = 1; vmid = 1 }
+
 -- A host that told its IPv4 address moved away and back before its first edge switch heard of that, so that its newest address was told with
 -- none. The manager knows its IPv4 address.
 abbrev moved_away_and_back : Mac → Ip4 → Learnt
 moved_away_and_back mac ip = record {
   addresses =
-      record { switch = record { 0 = 1 }; pmac = record { pod = 0; position = 0; port = 1; vmid = 1 }; amac = mac; ip = None }
-      ∷ record { switch = record { 0 = 1 }; pmac = record { pod = 0; position = 0; port = 0; vmid = 1 }; amac = mac; ip = Some ip }
+      record {
+        switch = record { 0 = 1 };
+        pmac = record { pod = 0; position = 0; port = 1; vmid = 1 };
+        amac = mac;
+        ip = None;
+        number = 2;
+        recall = None;
+        aged = false;
+      }
+      ∷ record {
+        switch = record { 0 = 1 };
+        pmac = record { pod = 0; position = 0; port = 0; vmid = 1 };
+        amac = mac;
+        ip = Some ip;
+        number = 1;
+        recall = Some (record { new = record { pod = 0; position = 0; port = 1; vmid = 1 }; number = 2 });
+        aged = false;
+      }
       ∷ [];
-  owners = (ip, record { pod = 0; position = 0; port = 0; vmid = 1 }) ∷ [];
+  owners = (ip, mac) ∷ [];
+  count = 2;
 }
 
 an_older_address_tells_the_ip : (mac : Mac) (ip : Ip4) → KnowsIp (moved_away_and_back mac ip) mac ip
 an_older_address_tells_the_ip mac ip = record {
-  told = record { pmac = record { pod = 0; position = 0; port = 0; vmid = 1 }; amac = mac; number = 1; switch = record { 0 = 1 } };
+  told = record { pmac = first_address; amac = mac; number = 1; switch = record { 0 = 1 } };
   found = refl;
   for_host = refl;
   with_ip = refl;

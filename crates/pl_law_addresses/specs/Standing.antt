@@ -5,6 +5,7 @@ use Rattle.pl_frame.specs.declared.address.Mac.{Mac}
 use Rattle.pl_pmac.specs.declared.pmac.Pmac.{Pmac}
 use Rattle.pl_node.specs.declared.messages.ToSwitch.{ToSwitch}
 use Rattle.pl_node.specs.declared.messages.ToSwitch.TheVariants.{Invalidate}
+use Rattle.pl_node.specs.AddressUses.{standing_trap}
 use Rattle.pl_node.specs.declared.switch_records.Grant.{Grant}
 use Rattle.pl_node.specs.declared.trap.Trap.{Trap}
 use Rattle.pl_node.specs.SwitchViews.{SwitchView}
@@ -17,7 +18,7 @@ pub record HasTrap (v : SwitchView) (old new : Pmac) (number : ℕ) : Type 0 whe
   pub grant : Grant
   pub trap : Trap
   pub found : granted v old ≡ Some grant
-  pub set : grant.trap ≡ Some trap
+  pub set : standing_trap grant.held ≡ Some trap
   pub leads_to : trap.new ≡ new
   pub carries : trap.number ≡ number
 

@@ -1,17 +1,20 @@
-ghost use Rattle.std.specs.Prelude.{◌≡◌, ◌≤◌, ◌⊎◌, ℕ, [], None, Some, true, slice_get};
+ghost use Rattle.std.specs.Prelude.{◌≡◌, ◌≤◌, ◌⊎◌, ℕ, List, [], None, Some, option_map, true, slice_get};
 ghost use Rattle.std.specs.List.{list_any};
 ghost use Rattle.pl_wiring.specs.declared.host.Host.{Host};
 ghost use Rattle.pl_node.specs.declared.switch_records.Grant.{Grant};
-ghost use Rattle.pl_node.specs.ManagerViews.{Learnt, Registration, newest, registration};
+ghost use Rattle.pl_node.specs.AddressUses.{is_in_use};
+ghost use Rattle.pl_node.specs.ManagerViews.{Registration, newest, registration};
+ghost use Rattle.pl_manager_rule.specs.Histories.{Word, known};
 ghost use Rattle.pl_node.specs.SwitchViews.{SwitchView};
 ghost use Rattle.pl_frame.specs.declared.address.Ip4.{Ip4};
 ghost use Rattle.pl_frame.specs.declared.address.Mac.{Mac};
 ghost use Rattle.pl_pmac.specs.declared.pmac.Pmac.{Pmac};
 ghost use Rattle.pl_queues.specs.Queues.{items_at};
-ghost use Rattle.pl_switch_rule.specs.Granting.{granted};
+ghost use Rattle.pl_switch_rule.specs.Granting.{granted, is_local};
 ghost use Rattle.pl_world.specs.declared.attachment.AttachmentPoint.{AttachmentPoint};
 ghost use Rattle.pl_world.specs.Booting.{me_of};
 ghost use Rattle.pl_world.specs.Worlds.{WorldView};
+ghost use Rattle.pl_law_phases.specs.Tenures.{is_held};
 ghost use Rattle.pl_law_addresses.specs.Addressed.{AreApart, IsAddressed, IsGrantedBySome};
 ghost use Rattle.pl_law_addresses.specs.Registered.{IsRegisteredWithIp, IsServed};
 ghost use Rattle.pl_law_addresses.specs.EdgeAddresses.{is_live, recalls, tells, tells_ip};
@@ -40,20 +43,26 @@ pub fn a_registered_address_is_granted()
         IsGrantedBySome w.switches x reg.amac }
 {}
 
-/// Of the addresses that are registered for a host the newest one has the largest number.
+/// It is not free there: its host has it in use, a trap stands for it, or it rests.
+pub fn a_registered_address_is_held()
+    ensures { (w : WorldView) → IsAddressed w → (s : ℕ) (v : SwitchView) (x : Pmac) (reg : Registration) → slice_get w.switches s ≡ Some v →
+        is_local v x ≡ true → registration w.manager.learnt x ≡ Some reg → is_held (option_map (λ g. g.held) (granted v x)) ≡ true }
+{}
+
+/// Whatever the manager was told: of the addresses that are registered for a host the newest one has the largest number.
 pub fn the_newest_address_has_the_largest_number()
-    ensures { (learnt : Learnt) (x : Pmac) (reg first : Registration) → registration learnt x ≡ Some reg →
-        newest learnt reg.amac ≡ Some first → reg.number ≤ first.number }
+    ensures { (k : ℕ) (words : List Word) (x : Pmac) (reg first : Registration) → registration (known k words).learnt x ≡ Some reg →
+        newest (known k words).learnt reg.amac ≡ Some first → reg.number ≤ first.number }
 {}
 
 /// An address in use that the manager does not know is told to it by a message that waits, and so is an
 /// IPv4 address of one that the manager does not know.
 pub fn an_address_in_use_is_told()
     ensures address { (w : WorldView) → IsAddressed w → (s : ℕ) (v : SwitchView) (x : Pmac) (g : Grant) →
-        slice_get w.switches s ≡ Some v → granted v x ≡ Some g → g.in_use ≡ true → registration w.manager.learnt x ≡ None →
+        slice_get w.switches s ≡ Some v → granted v x ≡ Some g → is_in_use g.held ≡ true → registration w.manager.learnt x ≡ None →
         list_any (tells x) (items_at w.to_manager s) ≡ true }
     ensures ip { (w : WorldView) → IsAddressed w → (s : ℕ) (v : SwitchView) (x : Pmac) (g : Grant) (ip : Ip4) →
-        slice_get w.switches s ≡ Some v → granted v x ≡ Some g → g.in_use ≡ true → g.ip ≡ Some ip →
+        slice_get w.switches s ≡ Some v → granted v x ≡ Some g → is_in_use g.held ≡ true → g.ip ≡ Some ip →
         ((registry_of w.manager.learnt).ip_at x ≡ Some ip) ⊎ (list_any (tells_ip x) (items_at w.to_manager s) ≡ true) }
 {}
 
@@ -61,7 +70,7 @@ pub fn an_address_in_use_is_told()
 /// switch of a newer one.
 pub fn an_address_in_use_is_the_newest_or_recalled()
     ensures { (w : WorldView) → IsAddressed w → (s : ℕ) (v : SwitchView) (x : Pmac) (g : Grant) (reg : Registration) →
-        slice_get w.switches s ≡ Some v → granted v x ≡ Some g → g.in_use ≡ true → registration w.manager.learnt x ≡ Some reg →
+        slice_get w.switches s ≡ Some v → granted v x ≡ Some g → is_in_use g.held ≡ true → registration w.manager.learnt x ≡ Some reg →
         (newest w.manager.learnt g.amac ≡ Some reg) ⊎ (list_any (recalls x) (items_at w.from_manager s) ≡ true) }
 {}
 
@@ -72,16 +81,6 @@ pub fn a_served_host_is_registered_at_rest()
     ensures { (w : WorldView) → IsAddressed w → (h : ℕ) (host : Host) (attachment : AttachmentPoint) (v : SwitchView) → slice_get w.plan.hosts h ≡ Some host →
         slice_get w.attachments h ≡ Some attachment → slice_get w.switches attachment.edge.0 ≡ Some v → items_at w.to_manager attachment.edge.0 ≡ [] →
         items_at w.from_manager attachment.edge.0 ≡ [] → IsServed v attachment.port (me_of host) → IsRegisteredWithIp w h }
-{}
-
-/// The address that a host has in use at a port is the last one that was granted to it there, and no trap
-/// stands for it.
-pub fn an_address_in_use_is_the_last_granted()
-    ensures last { (w : WorldView) → IsAddressed w → (s : ℕ) (v : SwitchView) (x y : Pmac) (g h : Grant) →
-        slice_get w.switches s ≡ Some v → granted v x ≡ Some g → granted v y ≡ Some h → g.in_use ≡ true →
-        g.amac ≡ h.amac → x.port ≡ y.port → y.vmid ≤ x.vmid }
-    ensures free { (w : WorldView) → IsAddressed w → (s : ℕ) (v : SwitchView) (x : Pmac) (g : Grant) →
-        slice_get w.switches s ≡ Some v → granted v x ≡ Some g → g.in_use ≡ true → g.trap ≡ None }
 {}
 
 /// An IPv4 address that an edge switch keeps with an address, or that the manager knows of it, is that of the

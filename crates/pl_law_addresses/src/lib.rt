@@ -3,8 +3,8 @@
 #![tactic(auto)]
 
 pub use addresses_in_order::{
-    a_registered_address_is_granted, a_served_host_is_registered_at_rest,
-    a_standing_trap_leads_to_a_newer_address, an_address_in_use_is_the_last_granted,
+    a_registered_address_is_granted, a_registered_address_is_held,
+    a_served_host_is_registered_at_rest, a_standing_trap_leads_to_a_newer_address,
     an_address_in_use_is_the_newest_or_recalled, an_address_in_use_is_told,
     an_ip_address_that_is_known_is_its_hosts_own, no_two_edge_switches_grant_one_address,
     the_newest_address_has_the_largest_number,

@@ -1,5 +1,5 @@
 -- What entries say of addresses.
-use Rattle.std.proofs.Common.{◌≡◌, ◌⊎◌, ◌≤◌, ◌+◌, ◌==◌, ◌&&◌, ◌||◌, not, ℕ, Bool, true, if◌then◌else◌, List, [], ◌∷◌, Option, Some, None, refl, sym, ap, subst, ◌∙◌, inl, inr, arith}
+use Rattle.std.proofs.Common.{◌≡◌, ◌⊎◌, ◌+◌, ◌==◌, ◌&&◌, ◌||◌, not, ℕ, Bool, true, if◌then◌else◌, List, [], ◌∷◌, Option, Some, None, refl, sym, ap, subst, ◌∙◌, inl, inr}
 use Rattle.std.specs.List.{AllByRecursion}
 use Rattle.std.proofs.lemmas.Bool.{and_from, and_parts, cases_Bool, cond-false, cond-true, eq-eqb, eqb-true, or_left, or_right}
 use Rattle.std.proofs.lemmas.Option.{none-some, same_Some}
@@ -14,7 +14,7 @@ use Rattle.pl_journal.specs.Places.{EdgePort, are_alike, are_live_there, at_port
 use Rattle.pl_node.specs.SwitchViews.{SwitchView}
 use Rattle.pl_world.specs.Changes.{host_of}
 use Rattle.pl_law_ledger.specs.Ledgers.{IsBacked, IsGrantedThere, ledger}
-use Rattle.pl_law_ledger.proofs.Giving.{AreRising, ComesBefore, Giving, IsOneOf}
+use Rattle.pl_law_ledger.proofs.Giving.{Giving, IsOneOf}
 use Rattle.pl_law_ledger.proofs.GrantsWritten.{all_written, entry_for}
 
 -- ---- the entries that are left out say nothing of addresses
@@ -175,21 +175,16 @@ module _ (plan : Plan) (s : ℕ) where
   }
 
   -- the last is one that is given, or one behind it
-  pub last_given : (gs : List Giving) (entries : List Entry) (Q : Pmac → Type 0) (g : Giving) (h : ℕ) → IsOneOf gs g → AreRising gs → host_of plan g.mac ≡ Some h → Q g.pmac →
-      AllByRecursion (λ f. host_of plan f.mac ≡ Some h → f.pmac.port ≡ g.pmac.port → g.pmac.vmid ≤ f.pmac.vmid → Q f.pmac) gs → HasLast (all_written plan s entries gs) Q s h g.pmac.port
-  last_given [] entries Q g h one rising of good all = absurd one
-  last_given (f ∷ gs) entries Q g h one rising of good all = elim one [
-    | inr later ↦ last_given gs (entry_for s entries f.pmac (host_of plan f.mac)) Q g h later rising.1 of good all.1
+  pub last_given : (gs : List Giving) (entries : List Entry) (Q : Pmac → Type 0) (g : Giving) (h : ℕ) → IsOneOf gs g → host_of plan g.mac ≡ Some h → Q g.pmac →
+      AllByRecursion (GivesGood Q s h g.pmac.port) gs → HasLast (all_written plan s entries gs) Q s h g.pmac.port
+  last_given [] entries Q g h one of good all = absurd one
+  last_given (f ∷ gs) entries Q g h one of good all = elim one [
+    | inr later ↦ last_given gs (entry_for s entries f.pmac (host_of plan f.mac)) Q g h later of good all.1
     | inl here ↦
-        last_stays gs (entry_for s entries f.pmac (host_of plan f.mac)) Q s h g.pmac.port (behind gs all.1 (subst (λ (q : Giving). AllByRecursion (ComesBefore q) gs) here rising.0))
+        last_stays gs (entry_for s entries f.pmac (host_of plan f.mac)) Q s h g.pmac.port all.1
         (subst (λ (q : Giving). HasLast (entry_for s entries f.pmac (host_of plan f.mac)) Q s h q.pmac.port) here
         (last_first entries f.pmac (host_of plan f.mac) Q h (ap (λ (q : Giving). host_of plan q.mac) here ∙ of) (subst (λ (q : Giving). Q q.pmac) (sym here) good)))
   ]
-    where
-      behind : (fs : List Giving) → AllByRecursion (λ q. host_of plan q.mac ≡ Some h → q.pmac.port ≡ g.pmac.port → g.pmac.vmid ≤ q.pmac.vmid → Q q.pmac) fs →
-          AllByRecursion (ComesBefore g) fs → AllByRecursion (GivesGood Q s h g.pmac.port) fs
-      behind [] all rising = tt
-      behind (q ∷ fs) all rising = (λ is there. all.0 is there.1 (let less = rising.0 there.1 in omega (arith, less)), behind fs all.1 rising.1)
 
   -- nothing else is said
   pub record SaysAlike (entries later : List Entry) : Type 0 where

@@ -82,9 +82,7 @@ stood_more plan entries h to g there is = or_right (h == g && same_edge_port (at
 move_ledger : (u : WorldView) (h : ℕ) (to : AttachmentPoint) → h < length u.attachments → IsIn (parts_of u) → IsIn (with_attachments u h to)
 move_ledger u h to within l = record {
   grants = λ s v x g found is. let e = l.grants s v x g found is in record { host = e.host; of_mac = e.of_mac; held = e.held; live = e.live; there = e.there; for_hosts = e.for_hosts };
-  newest = λ s v x g host found is of.
-      let e = l.newest s v x g host found is of in
-      record { last = e.last; grant = e.grant; is_last = e.is_last; found = e.found; of_mac = e.of_mac; same_port = e.same_port; not_before = e.not_before };
+  last = l.last;
   backed = (tt, l.backed);
   few = l.few;
   sources = λ s v port source found is.

@@ -1,5 +1,5 @@
 -- The addresses that acts grant, in order.
-use Rattle.std.proofs.Common.{◌≡◌, ◌⊎◌, ◌<◌, ◌+◌, ℕ, if◌then◌else◌, List, [], ◌∷◌, ◌++◌, None, refl, ap, subst, inl, inr}
+use Rattle.std.proofs.Common.{◌≡◌, ◌⊎◌, ◌+◌, ℕ, if◌then◌else◌, List, [], ◌∷◌, ◌++◌, None, refl, ap, subst, inl, inr}
 use Rattle.std.specs.List.{AllByRecursion}
 use Rattle.pl_frame.specs.declared.address.Mac.{Mac}
 use Rattle.pl_pmac.specs.declared.pmac.Pmac.{Pmac}
@@ -97,11 +97,3 @@ newly_given v w (act.Redirect old new ∷ acts) all = newly_given v w acts all.1
 newly_given v w (act.Pass port frame ∷ acts) all = newly_given v w acts all.1
 newly_given v w (act.Take ∷ acts) all = newly_given v w acts all.1
 newly_given v w (act.Drop cause ∷ acts) all = newly_given v w acts all.1
-
--- of two at one port the later one has the larger vmid
-abbrev pub ComesBefore : Giving → Giving → Type 0
-ComesBefore g h = h.pmac.port ≡ g.pmac.port → g.pmac.vmid < h.pmac.vmid
-
-abbrev pub AreRising : List Giving → Type 0
-AreRising [] = Unit {0}
-AreRising (g ∷ gs) = AllByRecursion (ComesBefore g) gs × AreRising gs

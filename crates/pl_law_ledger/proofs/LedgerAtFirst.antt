@@ -33,7 +33,7 @@ boot_ledger plan limits = record {
   grants = λ s v x g found is.
       let it = from_map (λ id. switch_at_boot id plan.k) plan.ids s v found in
       absurd (none-some g (subst (λ (u : SwitchView). granted u x ≡ Some g) (sym it.2) is));
-  newest = λ s v x g h found is of.
+  last = λ s v x g h found is used of.
       let it = from_map (λ id. switch_at_boot id plan.k) plan.ids s v found in
       absurd (none-some g (subst (λ (u : SwitchView). granted u x ≡ Some g) (sym it.2) is));
   backed = tt;

@@ -1,4 +1,5 @@
 pub mod Giving
+pub mod Using
 pub mod Takes
 pub mod Sourcing
 pub mod StepTakes

@@ -1,5 +1,5 @@
 -- The fabric manager keeps the ledger: what it registers is written down.
-use Rattle.std.proofs.Common.{◌≡◌, ◌⊎◌, ◌+◌, ◌==◌, ℕ, true, false, cond, List, [], ◌∷◌, ◌++◌, fold, map, length, Option, Some, None, option_map, unwrap_or, refl, sym, ap, subst, ◌∙◌, inl, inr, append_assoc}
+use Rattle.std.proofs.Common.{◌≡◌, ◌⊎◌, ◌+◌, ◌==◌, ℕ, true, false, cond, List, [], ◌∷◌, ◌++◌, fold, map, Option, Some, None, option_map, unwrap_or, refl, sym, ap, subst, ◌∙◌, inl, inr, append_assoc}
 use Rattle.std.specs.List.{flat_map, list_any}
 use Rattle.std.proofs.lemmas.Bool.{cases_Bool, cond-false, cond-true, eq-eqb, false≢true, ne_eqb, eqb-true}
 use Rattle.pl_frame.specs.declared.address.Ip4.{Ip4}
@@ -20,7 +20,7 @@ use Rattle.pl_node.specs.ManagerFacts.{groups}
 use Rattle.pl_node.specs.SwitchViews.{SwitchView}
 use Rattle.pl_journal.specs.declared.entry.Entry.{Entry}
 use Rattle.pl_journal.specs.declared.entry.Entry.TheVariants.{Registered}
-use Rattle.pl_journal.specs.Places.{number, registered, holder}
+use Rattle.pl_journal.specs.Places.{number, holder}
 use Rattle.pl_manager_rule.specs.Histories.{Word, known}
 use Rattle.pl_manager_rule.specs.ManagerRule.{answer_to, avoid_acts, changed, changed_of_group, invalidation, learning, manager_hears, tree_acts, tree_acts_of, view_after}
 use Rattle.pl_wiring.specs.Plan.{Plan}
@@ -94,14 +94,14 @@ said_parts w (Number x n ∷ acts) =
 pub record LearnsNothing (before after : Learnt) (ns : List Numbering) : Type 0 where
   pub none : ns ≡ []
   pub at : (y : Pmac) → number_of (registry_of after) y ≡ number_of (registry_of before) y
-  pub count : length (registry after) ≡ length (registry before)
+  pub count : after.count ≡ before.count
 
 pub record LearnsOne (before after : Learnt) (ns : List Numbering) (x : Pmac) : Type 0 where
-  pub one : ns ≡ record { pmac = x; number = length (registry before) + 1 } ∷ []
+  pub one : ns ≡ record { pmac = x; number = before.count + 1 } ∷ []
   pub none : number_of (registry_of before) x ≡ None
-  pub here : number_of (registry_of after) x ≡ Some (length (registry before) + 1)
+  pub here : number_of (registry_of after) x ≡ Some (before.count + 1)
   pub at : (y : Pmac) → same_pmac x y ≡ false → number_of (registry_of after) y ≡ number_of (registry_of before) y
-  pub count : length (registry after) ≡ length (registry before) + 1
+  pub count : after.count ≡ before.count + 1
 
 -- what comes of a word: nothing is learnt, or the address that it names
 abbrev pub LearnsBy : ToManager → Learnt → Learnt → List Numbering → Type 0
@@ -114,7 +114,7 @@ module _ (k : ℕ) (words : List Word) (id : SwitchId) where
   nothing_learnt says reply after same none = record {
     none = reply_alone reply (known k words) after ∙ none;
     at = λ y. ap (λ (l : Learnt). number_of (registry_of l) y) same;
-    count = ap (λ (l : Learnt). length (registry l)) same;
+    count = ap (λ (l : Learnt). l.count) same;
   }
 
   address_learnt : (x : Pmac) (mac : Mac) (ip : Option Ip4) →
@@ -126,13 +126,13 @@ module _ (k : ℕ) (words : List Word) (id : SwitchId) where
       let before = (known k words).learnt in
       let after = (known k (word ∷ words)).learnt in
       let all = reply_alone (learning before after x mac) (known k words) (known k (word ∷ words)) in
-      let number : ℕ = length (registry before) + 1 in
+      let number : ℕ = before.count + 1 in
       elim (cases_Bool (list_any (λ (q : Registration). same_pmac q.pmac x) (registry before))) [
         | inl there ↦
             let h = again k words id x mac ip there in
             inl (record {
               none = all ∙ ap (λ b. numberings (cond b [] (Number x number ∷ invalidation after x number (newest before mac)))) there;
-              at = λ y. ap (option_map (λ (r : Registration). r.number)) (h.at y);
+              at = λ y. ap (option_map (λ (r : Registration). r.number)) (h.alike y).at;
               count = h.count;
             })
         | inr fresh ↦
@@ -168,7 +168,7 @@ module _ (plan : Plan) (learnt after : Learnt) (switches : List SwitchView) (att
   pub nothing_entered : (ns : List Numbering) → LearnsNothing learnt after ns → AreEntered plan after switches attachments (all_numbered entries ns)
   nothing_entered ns l = subst (λ ms. AreEntered plan after switches attachments (all_numbered entries ms)) (sym l.none) (record {
     grants = before.grants;
-    newest = before.newest;
+    last = before.last;
     backed = before.backed;
     few = before.few;
     sources = before.sources;
@@ -181,9 +181,7 @@ module _ (plan : Plan) (learnt after : Learnt) (switches : List SwitchView) (att
   pub one_entered : (ns : List Numbering) (x : Pmac) → PmacFits x → (h : ℕ) × (holder entries (pmac_number x) ≡ Some h) → LearnsOne learnt after ns x → AreEntered plan after switches attachments (all_numbered entries ns)
   one_entered ns x fits_x held l = subst (λ ms. AreEntered plan after switches attachments (all_numbered entries ms)) (sym l.one) (record {
     grants = λ s v y g found is. let e = before.grants s v y g found is in record { host = e.host; of_mac = e.of_mac; held = e.held; live = e.live; there = e.there; for_hosts = e.for_hosts };
-    newest = λ s v y g h found is of.
-        let e = before.newest s v y g h found is of in
-        record { last = e.last; grant = e.grant; is_last = e.is_last; found = e.found; of_mac = e.of_mac; same_port = e.same_port; not_before = e.not_before };
+    last = before.last;
     backed = (tt, before.backed);
     few = before.few;
     sources = λ s v port source found is.
@@ -191,16 +189,16 @@ module _ (plan : Plan) (learnt after : Learnt) (switches : List SwitchView) (att
     standing = before.standing;
     numbers = λ y fits. elim (is_or_other x y) [
       | inl same ↦
-          cond-true (pmac_number x == pmac_number y) (Some (length (registry learnt) + 1)) (number entries (pmac_number y)) (eq-eqb (pmac_number x) (pmac_number y) (ap pmac_number same))
+          cond-true (pmac_number x == pmac_number y) (Some (learnt.count + 1)) (number entries (pmac_number y)) (eq-eqb (pmac_number x) (pmac_number y) (ap pmac_number same))
           ∙ sym l.here ∙ ap (λ z. number_of (registry_of after) z) same
       | inr other ↦
-          cond-false (pmac_number x == pmac_number y) (Some (length (registry learnt) + 1)) (number entries (pmac_number y))
+          cond-false (pmac_number x == pmac_number y) (Some (learnt.count + 1)) (number entries (pmac_number y))
           (ne_eqb (pmac_number x) (pmac_number y) (λ same. false≢true (sym other ∙ same_by x y (same_pmac_number x y fits_x fits same))))
           ∙ before.numbers y fits ∙ sym (l.at y other)
     ];
     numbered = λ n m is. elim (cases_Bool (pmac_number x == n)) [
       | inl same ↦ (held.0, ap (λ k. holder entries k) (sym (eqb-true (pmac_number x) n same)) ∙ held.1)
-      | inr other ↦ before.numbered n m (sym (cond-false (pmac_number x == n) (Some (length (registry learnt) + 1)) (number entries n) other) ∙ is)
+      | inr other ↦ before.numbered n m (sym (cond-false (pmac_number x == n) (Some (learnt.count + 1)) (number entries n) other) ∙ is)
     ];
     count = ap (λ n. n + 1) before.count ∙ sym l.count;
   })

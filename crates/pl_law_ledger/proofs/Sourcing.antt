@@ -15,7 +15,7 @@ use Rattle.pl_node.specs.declared.switch_records.Source.{Source}
 use Rattle.pl_node.specs.PortRecords.{ports_of_switch}
 use Rattle.pl_node.specs.SwitchViews.{SwitchView}
 use Rattle.pl_steps.specs.Steps.{does, rests, ◌▹◌}
-use Rattle.pl_switch_rule.specs.Granting.{address_at_port, forgets, granted, grants_at, grants_next, grants_or_learns, grants_remembered, grants_source, in_use, is_port_spent, learns_ip, learns_source, or_else, remembered_at, remembered_ip, remembers, sender_ip, with_grant}
+use Rattle.pl_switch_rule.specs.Granting.{address_at_port, forgets, grants_at, grants_next, grants_or_learns, grants_remembered, grants_source, in_use, is_port_spent, learns_ip, learns_source, or_else, remembered_at, remembered_ip, remembers, sender_ip, with_grant}
 use Rattle.pl_switch_rule.specs.Levels.{changes_to, has_become_placed, settles_in}
 use Rattle.pl_switch_rule.specs.Telling.{changes_told}
 use Rattle.pl_switch_rule.proofs.Exports.{all_range}
@@ -34,9 +34,10 @@ module _ (P : ℕ → Mac → Type 0) where
       takes_either P v (is_ip u.grant.ip ip) (rests v)
       (record { view = with_grant v (address_at_port v port vmid) (record u.grant { ip = Some ip }); acts = act.Tell (tell.Learned (address_at_port v port vmid) u.grant.amac (Some ip)) ∷ [] })
       (λ same. rests_takes P v)
-      (λ new. changed_takes P v (address_at_port v port vmid) u.grant (record u.grant { ip = Some ip })
+      (λ new. changed_takes P v (address_at_port v port vmid) u.grant (record u.grant { ip = Some ip }) here settled within
+      (granted_here v (address_at_port v port vmid) here ∙ u.found) refl refl
       (record { view = with_grant v (address_at_port v port vmid) (record u.grant { ip = Some ip }); acts = act.Tell (tell.Learned (address_at_port v port vmid) u.grant.amac (Some ip)) ∷ [] })
-      here settled within (granted_here v (address_at_port v port vmid) here ∙ u.found) refl refl refl)
+      refl refl)
 
   -- a source at a port of a placed edge switch
   source_takes : (v : SwitchView) (port : ℕ) (mac : Mac) (ip : Option Ip4) → is_settled v.place ≡ true → port < v.k → P port mac → (o : Option ℕ) →
@@ -46,7 +47,7 @@ module _ (P : ℕ → Mac → Type 0) where
       subst (λ (o : Option Grant). Takes P v (learns_ip v (address_at_port v port vmid) o ip)) (sym u.found) (known_takes v port vmid mac ip settled within u)
   source_takes v port mac ip settled within of_it None is =
       takes_either P v (is_port_spent v port) (rests v) (grants_next v port mac ip) (λ spent. rests_takes P v)
-      (λ room. next_takes P v port mac ip settled within room of_it)
+      (λ room. next_takes P v port mac ip settled within room of_it is)
 
   grants_takes : (v : SwitchView) (port : ℕ) (mac : Mac) (ip : Option Ip4) → is_settled v.place ≡ true → port < v.k → P port mac →
       Takes P v (grants_or_learns v port mac ip (in_use (grants_at v port) mac))

@@ -2,6 +2,7 @@
 use Rattle.std.proofs.Common.{◌≡◌, ◌<◌, ◌≤◌, ◌||◌, ℕ, true, false, List, [], ◌∷◌, length, Option, Some, None, Result, Ok, Err, get_or, refl, sym, ap, subst, ◌∙◌, inl, inr}
 use Rattle.std.proofs.lemmas.Bool.{cases_Bool, cond_both, false≢true}
 use Rattle.std.proofs.lemmas.Option.{none-some}
+use Rattle.pl_frame.specs.declared.address.Ip4.{Ip4}
 use Rattle.pl_frame.specs.declared.address.Mac.{Mac}
 use Rattle.pl_frame.specs.Ethernet.{payload_of, source_of}
 use Rattle.pl_pmac.specs.declared.pmac.Pmac.{Pmac}
@@ -14,6 +15,8 @@ use Rattle.pl_layouts.specs.Placement.{is_known}
 use Rattle.pl_node.specs.declared.acts.Act.TheVariants as act
 use Rattle.pl_node.specs.declared.messages.ToSwitch.{ToSwitch}
 use Rattle.pl_node.specs.declared.messages.ToSwitch.TheVariants as say
+use Rattle.pl_node.specs.AddressUses.{standing_trap}
+use Rattle.pl_node.specs.declared.address_use.AddressUse.TheVariants.{Trapped}
 use Rattle.pl_node.specs.declared.switch_records.Grant.{Grant}
 use Rattle.pl_node.specs.declared.switch_records.Source.{Source}
 use Rattle.pl_node.specs.declared.trap.Trap.{Trap}
@@ -27,7 +30,7 @@ use Rattle.pl_steps.specs.Steps.{SwitchStep, does, rests, ◌▹◌}
 use Rattle.pl_switch_rule.specs.Announcing.{ticks}
 use Rattle.pl_switch_rule.specs.Delivering.{makes}
 use Rattle.pl_switch_rule.specs.Forwarding.{Choice}
-use Rattle.pl_switch_rule.specs.Granting.{granted, grants_at, is_granted, learns_source}
+use Rattle.pl_switch_rule.specs.Granting.{granted, is_granted, learns_source}
 use Rattle.pl_switch_rule.specs.Intake.{comes_from_host, takes_in_or_spent}
 use Rattle.pl_switch_rule.specs.Levels.{after_message, becomes_edge, changes_to, finds_host, with_pod}
 use Rattle.pl_switch_rule.specs.Messages.{answer_frame, flood_frame, floods, forgets_members, hears_manager, invalidates, probes, sets_trap, takes_pod}
@@ -36,10 +39,11 @@ use Rattle.pl_switch_rule.specs.SwitchRule.{comes_from_switch, control_comes, da
 use Rattle.pl_switch_rule.proofs.Exports.{granted_parts, none_granted}
 use Rattle.pl_law_addresses.specs.EdgeAddresses.{IsGrantedTo, is_settled}
 use Rattle.pl_law_addresses.specs.Registries.{Registry}
-use Rattle.pl_law_addresses.proofs.Exports.{aside_does, edge_placing, floods_aside, forgets_members_aside, granted_within, IsPlacing, keeps_changes, local_settled, makes_aside, message_placing, pod_placing, probes_aside, proposal_aside, same_grantees, switch_frame_aside, takes_in_aside, ticks_aside, vote_placing}
+use Rattle.pl_law_addresses.proofs.Exports.{aside_does, edge_placing, floods_aside, forgets_members_aside, granted_within, IsPlacing, keeps_changes, LeavesAddresses, local_settled, makes_aside, message_placing, pod_placing, probes_aside, proposal_aside, same_grantees, switch_frame_aside, takes_in_aside, ticks_aside, vote_placing}
 use Rattle.pl_law_ledger.proofs.Giving.{all_weaker, givings}
 use Rattle.pl_law_ledger.proofs.Sourcing.{changes_takes, learns_takes}
-use Rattle.pl_law_ledger.proofs.Takes.{AreOf, IsFurther, IsListed, Takes, aside_takes, changed_takes, rests_takes, takes_either, takes_then}
+use Rattle.pl_law_ledger.proofs.Takes.{AreOf, Enters, IsListed, Takes, aside_takes, enters_aside, enters_of, rests_takes, takes_either, takes_then, unused_enters}
+use Rattle.pl_law_ledger.proofs.Using.{IsFirstThere, IsUsedAt, same_used}
 
 -- What is needed of what comes: a frame of a host comes at a port where its host has stood.
 abbrev pub ComesWell : (ℕ → Mac → Type 0) → SwitchView → SwitchInput → Type 0
@@ -49,7 +53,7 @@ ComesWell P v (Says says) = Unit {0}
 
 -- what comes of a change of the place leaves it so
 no_registry : Registry
-no_registry = record { at = λ x. None; newest_of = λ mac. None; ip_at = λ x. None; count = 0 }
+no_registry = record { at = λ x. None; recall_at = λ x. None; aged_at = λ x. false; newest_of = λ mac. None; ip_at = λ x. None; count = 0 }
 
 settling_place : (v w : SwitchView) → (changes_to v w).view.place ≡ w.place
 settling_place v w = (keeps_changes (λ mac. None) no_registry None [] v w).place
@@ -63,10 +67,13 @@ module _ (P : ℕ → Mac → Type 0) where
     listed = λ l. b.listed listed_then;
     few = λ l few. b.few listed_then (λ port. subst (λ (gs : List (List Grant)). length (get_or gs port []) ≤ 65535) (sym p.grants) (few port));
     sources = λ are. b.sources (λ port source is. are port source (ap (λ (ss : List (Option Source)). get_or ss port None) (sym p.remembered) ∙ is));
-    longer = λ l port. subst (λ (gs : List (List Grant)). length (get_or gs port []) ≤ length (grants_at s.view port)) p.grants (b.longer listed_then port);
-    further = λ l. all_weaker (IsFurther w s.view) (IsFurther v s.view)
-        (λ g is. (subst (λ (gs : List (List Grant)). length (get_or gs g.pmac.port []) < g.pmac.vmid) p.grants is.0, is.1)) (givings s.acts) (b.further listed_then);
-    rising = λ l. b.rising listed_then;
+    last = λ l x mac is. let it = b.last listed_then x mac is in record {
+      only = it.only;
+      from = elim it.from [ inl was ↦ inl (used_before x mac was) | inr now ↦ inr now ];
+    };
+    first = λ l. all_weaker (IsFirstThere w) (IsFirstThere v) (λ f free y is port. free y (used_then y f.mac is) port) (givings s.acts) (b.first listed_then);
+    used = λ l. b.used listed_then;
+    stays = λ l x mac is. b.stays listed_then x mac (used_then x mac is);
     settled = λ is. b.settled (ap (λ (q : Place). is_settled q) (p.place is) ∙ is);
     k = b.k ∙ p.k;
   }
@@ -85,6 +92,19 @@ module _ (P : ℕ → Mac → Type 0) where
         | inl settled ↦ same_grantees w v (sym (p.place settled)) (sym p.grants) x mac is
         | inr never ↦
             absurd (none-some is.grant (sym (none_granted w x (ap (λ (gs : List (List Grant)). get_or gs x.port []) p.grants ∙ listed.empty never x.port)) ∙ is.found))
+      ]
+
+      used_before : (x : Pmac) (mac : Mac) → IsUsedAt w x mac → IsUsedAt v x mac
+      used_before x mac is = elim (cases_Bool (is_settled v.place)) [
+        | inl settled ↦ same_used w v (sym (p.place settled)) (sym p.grants) x mac is
+        | inr never ↦
+            absurd (none-some is.grant (sym (none_granted w x (ap (λ (gs : List (List Grant)). get_or gs x.port []) p.grants ∙ listed.empty never x.port)) ∙ is.found))
+      ]
+
+      used_then : (x : Pmac) (mac : Mac) → IsUsedAt v x mac → IsUsedAt w x mac
+      used_then x mac is = elim (cases_Bool (is_settled v.place)) [
+        | inl settled ↦ same_used v w (p.place settled) p.grants x mac is
+        | inr never ↦ absurd (none-some is.grant (sym (none_granted v x (listed.empty never x.port)) ∙ is.found))
       ]
 
   changing_takes : (v w : SwitchView) → IsPlacing v w → IsListed v → AreOf P v → Takes P v (changes_to v w)
@@ -122,37 +142,48 @@ module _ (P : ℕ → Mac → Type 0) where
         (λ host. host_frame port frame (well other host).0 (well other host).1)
         (λ h. aside_takes P v (comes_from_switch choose v port frame) (switch_frame_aside choose v port frame)))
 
-    recalled : (old : Pmac) (trap : Trap) (o : Option Grant) → granted v old ≡ o → Takes P v (invalidates v old trap o)
-    recalled old trap None is = rests_takes P v
+    recalled : (old : Pmac) (trap : Trap) (o : Option Grant) → granted v old ≡ o → Enters P v (invalidates v old trap o)
+    recalled old trap None is = enters_of P v (rests v) (rests_takes P v)
     recalled old trap (Some g) is =
         let here = (granted_parts v old g is).0 in
         let w : SwitchView = sets_trap v old g trap in
-        takes_then P v (does w [] ▹ forgets_members old.port g.amac) (probes old g)
-        (takes_then P v (does w []) (forgets_members old.port g.amac)
-        (changed_takes P v old g (record g { in_use = false; trap = Some (newer_trap trap g.trap) }) (does w []) here (local_settled v old here)
-        (granted_within v old g is listed.many) is refl refl refl)
-        (aside_takes P w (forgets_members old.port g.amac w) (forgets_members_aside old.port g.amac w)))
-        (aside_takes P (does w [] ▹ forgets_members old.port g.amac).view (probes old g (does w [] ▹ forgets_members old.port g.amac).view)
-        (probes_aside old g (does w [] ▹ forgets_members old.port g.amac).view))
+        enters_aside P v (does w [] ▹ forgets_members old.port g.amac) (probes old g)
+        (enters_aside P v (does w []) (forgets_members old.port g.amac)
+        (unused_enters P v old g (record g { held = Trapped (newer_trap trap (standing_trap g.held)) 0 }) here (local_settled v old here)
+        (granted_within v old g is listed.many) is refl refl)
+        (forgets_members_aside old.port g.amac w))
+        (probes_aside old g (does w [] ▹ forgets_members old.port g.amac).view)
 
-    says_row : (says : ToSwitch) → Takes P v (hears_manager choose v says)
-    says_row (say.Pod pod) =
+    pod_row : (pod : ℕ) → Takes P v (hears_manager choose v (say.Pod pod))
+    pod_row pod =
         cond_both (takes_pod v pod) (changes_to v (with_pod v (Some pod))) (rests v) (Takes P v)
         (λ takes. changing_takes v (with_pod v (Some pod)) (pod_placing v pod takes) listed are)
         (λ h. rests_takes P v)
-    says_row (say.Avoid list) = aside_takes P v (hears_manager choose v (say.Avoid list)) (record { place = refl; k = refl; grants = refl; remembered = refl; silent = tt })
-    says_row (say.Tree group part) = aside_takes P v (hears_manager choose v (say.Tree group part)) (record { place = refl; k = refl; grants = refl; remembered = refl; silent = tt })
-    says_row (say.Answer asker asker_ip ip pmac) =
+
+    answer_row : (asker : Pmac) (asker_ip ip : Ip4) (pmac : Pmac) → Takes P v (hears_manager choose v (say.Answer asker asker_ip ip pmac))
+    answer_row asker asker_ip ip pmac =
         takes_either P v (is_granted v asker) (makes choose (answer_frame asker asker_ip ip pmac) v) (rests v)
         (λ h. aside_takes P v (makes choose (answer_frame asker asker_ip ip pmac) v) (makes_aside choose (answer_frame asker asker_ip ip pmac) v))
         (λ h. rests_takes P v)
-    says_row (say.Flood asker asker_ip ip) =
+
+    flood_row : (asker : Pmac) (asker_ip ip : Ip4) → Takes P v (hears_manager choose v (say.Flood asker asker_ip ip))
+    flood_row asker asker_ip ip =
         takes_either P v (is_granted v asker) (floods v (flood_frame asker asker_ip ip)) (rests v)
         (λ h. aside_takes P v (floods v (flood_frame asker asker_ip ip)) (floods_aside v (flood_frame asker asker_ip ip)))
         (λ h. rests_takes P v)
+
+    quiet_row : (says : ToSwitch) → LeavesAddresses v (hears_manager choose v says) → Enters P v (hears_manager choose v says)
+    quiet_row says a = enters_of P v (hears_manager choose v says) (aside_takes P v (hears_manager choose v says) a)
+
+    says_row : (says : ToSwitch) → Enters P v (hears_manager choose v says)
+    says_row (say.Pod pod) = enters_of P v (hears_manager choose v (say.Pod pod)) (pod_row pod)
+    says_row (say.Avoid list) = quiet_row (say.Avoid list) (record { place = refl; k = refl; grants = refl; remembered = refl; silent = tt })
+    says_row (say.Tree group part) = quiet_row (say.Tree group part) (record { place = refl; k = refl; grants = refl; remembered = refl; silent = tt })
+    says_row (say.Answer asker asker_ip ip pmac) = enters_of P v (hears_manager choose v (say.Answer asker asker_ip ip pmac)) (answer_row asker asker_ip ip pmac)
+    says_row (say.Flood asker asker_ip ip) = enters_of P v (hears_manager choose v (say.Flood asker asker_ip ip)) (flood_row asker asker_ip ip)
     says_row (say.Invalidate old new number ip) = recalled old (record { new = new; number = number; ip = ip }) (granted v old) refl
 
-    pub step_takes : (input : SwitchInput) → ComesWell P v input → Takes P v (switch_step choose v input)
-    step_takes (Comes port frame) well = comes_row port frame well
-    step_takes Tick well = aside_takes P v (ticks v) (ticks_aside v)
+    pub step_takes : (input : SwitchInput) → ComesWell P v input → Enters P v (switch_step choose v input)
+    step_takes (Comes port frame) well = enters_of P v (switch_step choose v (Comes port frame)) (comes_row port frame well)
+    step_takes Tick well = enters_of P v (switch_step choose v Tick) (aside_takes P v (ticks v) (ticks_aside v))
     step_takes (Says says) well = says_row says

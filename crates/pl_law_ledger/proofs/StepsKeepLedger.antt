@@ -1,31 +1,37 @@
 -- A step of a switch keeps the ledger.
-use Rattle.std.proofs.Common.{◌≡◌, ◌≢◌, ◌⊎◌, ◌≤◌, ◌<◌, ℕ, true, set, List, [], ◌∷◌, length, Some, slice_get, refl, sym, ap, subst, ◌∙◌, inl, inr, arith, None, Option}
+use Rattle.std.proofs.Common.{◌≡◌, ◌≢◌, ◌⊎◌, ◌≤◌, ◌<◌, ℕ, true, set, List, length, Some, slice_get, refl, sym, ap, subst, ◌∙◌, inl, inr, arith, None, Option}
 use Rattle.std.specs.List.{AllByRecursion}
 use Rattle.std.proofs.lemmas.Bool.{cases_eq}
+use Rattle.std.proofs.lemmas.Iterator.Adapters.{position_from-zero}
 use Rattle.std.proofs.lemmas.Option.{none-some, same_Some, slice_get_within}
 use Rattle.pl_lemmas.proofs.Exports.{all_found}
 use Rattle.pl_frame.specs.declared.address.Mac.{Mac}
 use Rattle.pl_pmac.specs.declared.pmac.Pmac.{Pmac}
 use Rattle.pl_pmac.specs.Pmac.{PmacFits, pmac_number}
 use Rattle.pl_pmac.proofs.Exports.{same_pmac_number}
+use Rattle.pl_layouts.specs.Equality.{same_mac}
+use Rattle.pl_layouts.proofs.Exports.{mac_is}
+use Rattle.pl_node.specs.AddressUses.{is_in_use}
 use Rattle.pl_node.specs.declared.switch_records.Grant.{Grant}
 use Rattle.pl_node.specs.Accounting.{IsShaped}
 use Rattle.pl_node.specs.ManagerViews.{Learnt}
 use Rattle.pl_node.specs.SwitchViews.{SwitchView}
 use Rattle.pl_journal.specs.declared.entry.Entry.{Entry}
-use Rattle.pl_journal.specs.Places.{at_port, number}
+use Rattle.pl_journal.specs.Places.{at_port, granted_at, number}
 use Rattle.pl_switch_rule.specs.Granting.{granted, grants_at, is_local, remembered_at}
 use Rattle.pl_switch_rule.proofs.Exports.{granted_parts}
+use Rattle.pl_wiring.specs.declared.host.Host.{Host}
 use Rattle.pl_wiring.specs.Plan.{Plan}
 use Rattle.pl_world.specs.declared.attachment.AttachmentPoint.{AttachmentPoint}
 use Rattle.pl_world.specs.Changes.{host_of}
 use Rattle.pl_law_addresses.specs.Addressed.{AreApart}
 use Rattle.pl_law_addresses.specs.EdgeAddresses.{IsGrantedTo, KeepsGrantees}
-use Rattle.pl_law_addresses.proofs.Exports.{get-set_other, get-set_same, granted_within, number_within}
-use Rattle.pl_law_ledger.specs.Ledgers.{AreEntered, AreInBounds, HasStoodThere, IsBeforeLast, IsEntered, IsGrantedThere}
+use Rattle.pl_law_addresses.proofs.Exports.{first_passes, get-set_other, get-set_same, granted_within, number_within}
+use Rattle.pl_law_ledger.specs.Ledgers.{AreEntered, AreInBounds, HasStoodThere, IsEntered, IsGrantedThere}
 use Rattle.pl_law_ledger.proofs.AddressTables.{GivesGood, HasLast, IsFor, SaysAlike, alike, all_backed, backed_later, last_given, last_stays, now_at, still_at, held_somewhere, some_holder}
-use Rattle.pl_law_ledger.proofs.Giving.{AreRising, Giving, IsNewlyGiven, IsOneOf, all_weaker, gives, of_all}
-use Rattle.pl_law_ledger.proofs.Takes.{AreFew, AreOf, IsFurther, IsOfHere}
+use Rattle.pl_law_ledger.proofs.Giving.{Giving, IsNewlyGiven, IsOneOf, all_weaker, gives, of_all}
+use Rattle.pl_law_ledger.proofs.Takes.{AreFew, AreOf, IsOfHere}
+use Rattle.pl_law_ledger.proofs.Using.{AreOnly, IsTheLast, IsUsedAt}
 use Rattle.pl_law_ledger.proofs.GrantsWritten.{all_written}
 
 -- what a switch has at each place, it has also where another list of switches has it there
@@ -52,6 +58,16 @@ fits_there switches shaped bounds few s v x g found is =
     let position = low.position in
     record { pod = omega (arith, pod); position = omega (arith, position); port = omega (arith, port, many); vmid = omega (arith, last, most) }
 
+-- an actual address is known by its host
+one_mac : (plan : Plan) (a b : Mac) (h : ℕ) → host_of plan a ≡ Some h → host_of plan b ≡ Some h → a ≡ b
+one_mac plan a b h is_a is_b =
+    let one = first_passes (λ (host : Host). same_mac host.mac a) plan.hosts 0 h (sym (position_from-zero (λ (host : Host). same_mac host.mac a) plan.hosts) ∙ is_a) in
+    let other = first_passes (λ (host : Host). same_mac host.mac b) plan.hosts 0 h (sym (position_from-zero (λ (host : Host). same_mac host.mac b) plan.hosts) ∙ is_b) in
+    let here = one.is in let there = other.is in
+    let place : one.at ≡ other.at = omega (arith, here, there) in
+    let host : one.item ≡ other.item = same_Some one.item other.item (sym one.found ∙ ap (slice_get plan.hosts) place ∙ other.found) in
+    sym (mac_is one.item.mac a one.passes) ∙ ap (λ (q : Host). q.mac) host ∙ mac_is other.item.mac b other.passes
+
 -- the port at which it has stood is written down still
 pub stood_later : (plan : Plan) (s : ℕ) (entries later : List Entry) (mac : Mac) (t port : ℕ) → SaysAlike plan s entries later → HasStoodThere plan entries mac (at_port t port) →
     HasStoodThere plan later mac (at_port t port)
@@ -64,7 +80,7 @@ module _ (plan : Plan) (learnt : Learnt) (switches : List SwitchView) (attachmen
     (stays : KeepsGrantees (λ x. granted v x) (λ x. granted w x)) (fresh : AllByRecursion (IsNewlyGiven v w) gs)
     (of_hosts : AllByRecursion (IsOfHere (λ port mac. HasStoodThere plan entries mac (at_port s port))) gs)
     (covers : (x : Pmac) (g : Grant) → granted w x ≡ Some g → IsGrantedTo (λ y. granted v y) x g.amac ⊎ IsOneOf gs (gives x g.amac))
-    (further : AllByRecursion (IsFurther v w) gs) (rising : AreRising gs) (few : AreFew w) (sources : AreOf (λ port mac. HasStoodThere plan entries mac (at_port s port)) w) where
+    (last : (x : Pmac) (mac : Mac) → IsUsedAt w x mac → IsTheLast v gs x mac) (few : AreFew w) (sources : AreOf (λ port mac. HasStoodThere plan entries mac (at_port s port)) w) where
   within : s < length switches
   within = slice_get_within switches s v found
 
@@ -136,65 +152,39 @@ module _ (plan : Plan) (learnt : Learnt) (switches : List SwitchView) (attachmen
       ]
 
   -- ---- the last address of a host at a port
-  -- one that is granted at the port to the host, not before x
-  IsNotBefore : ℕ → ℕ → ℕ → Pmac → Type 0
-  IsNotBefore h p vmid y = (g : Grant) × (granted w y ≡ Some g) × (host_of plan g.amac ≡ Some h) × (y.port ≡ p) × (vmid ≤ y.vmid)
+  -- what is granted to its host at the port of an address in use is that one
+  only_given : (x : Pmac) (mac : Mac) (h : ℕ) → host_of plan mac ≡ Some h → (fs : List Giving) → AreOnly x mac fs → AllByRecursion (GivesGood plan s (λ y. y ≡ x) s h x.port) fs
+  only_given x mac h of fs only =
+      all_weaker (λ f. f.mac ≡ mac → f.pmac.port ≡ x.port → f.pmac ≡ x) (GivesGood plan s (λ y. y ≡ x) s h x.port)
+      (λ f one mine at. one (one_mac plan f.mac mac h mine of) at.1) fs only
 
-  last_now : (x : Pmac) (g : Grant) (h : ℕ) → granted w x ≡ Some g → host_of plan g.amac ≡ Some h → IsBeforeLast plan (all_written plan s entries gs) s w h x
-  unfolding within there IsNotBefore
-  last_now x g h is of = found_last (elim (covers x g is) [
-    | inr one ↦
-        last_given plan s gs entries (IsNotBefore h x.port x.vmid) (gives x g.amac) h one rising of (g, is, of, refl, omega arith)
-        (all_weaker (IsNewlyGiven v w) (λ f. host_of plan f.mac ≡ Some h → f.pmac.port ≡ x.port → x.vmid ≤ f.pmac.vmid → IsNotBefore h x.port x.vmid f.pmac)
-        (λ f new mine port more. (new.1.grant, new.1.found, ap (host_of plan) new.1.to ∙ mine, port, more)) gs fresh)
-    | inl old ↦
-        let last = before.newest s v x old.grant h found old.found (ap (host_of plan) old.to ∙ of) in
-        let still = stays last.last last.grant.amac (record { grant = last.grant; found = last.found; to = refl }) in
-        let low = (number_within (grants_at v x.port) x.vmid old.grant (granted_parts v x old.grant old.found).1).1 in
-        last_stays plan s gs entries (IsNotBefore h x.port x.vmid) s h x.port
-        (new_behind gs fresh further low)
-        (record { last = last.last; is_last = last.is_last; good = (still.grant, still.found, ap (host_of plan) still.to ∙ last.of_mac, last.same_port, last.not_before) })
-  ])
+  last_here : (x : Pmac) (g : Grant) (h : ℕ) → granted w x ≡ Some g → is_in_use g.held ≡ true → host_of plan g.amac ≡ Some h →
+      granted_at (all_written plan s entries gs) h (at_port s x.port) ≡ Some x
+  last_here x g h is used of =
+      let it = last x g.amac (record { grant = g; found = is; used = used; to = refl }) in
+      let good = only_given x g.amac h of gs it.only in
+      is_last_of (elim it.from [
+        | inr one ↦ last_given plan s gs entries (λ y. y ≡ x) (gives x g.amac) h one of refl good
+        | inl old ↦
+            last_stays plan s gs entries (λ y. y ≡ x) s h x.port good
+            (record { last = x; is_last = before.last s v x old.grant h found old.found old.used (ap (host_of plan) old.to ∙ of); good = refl })
+      ])
     where
-      found_last : HasLast plan s (all_written plan s entries gs) (IsNotBefore h x.port x.vmid) s h x.port → IsBeforeLast plan (all_written plan s entries gs) s w h x
-      found_last l = record { last = l.last; grant = l.good.0; is_last = l.is_last; found = l.good.1; of_mac = l.good.2; same_port = l.good.3; not_before = l.good.4 }
+      is_last_of : HasLast plan s (all_written plan s entries gs) (λ y. y ≡ x) s h x.port → granted_at (all_written plan s entries gs) h (at_port s x.port) ≡ Some x
+      is_last_of l = l.is_last ∙ ap Some l.good
 
-      new_behind : (fs : List Giving) → AllByRecursion (IsNewlyGiven v w) fs → AllByRecursion (IsFurther v w) fs → x.vmid ≤ length (grants_at v x.port) →
-          AllByRecursion (GivesGood plan s (IsNotBefore h x.port x.vmid) s h x.port) fs
-      new_behind [] new more low = tt
-      new_behind (f ∷ fs) new more low = (
-        λ mine at. (
-          new.0.1.grant,
-          new.0.1.found,
-          ap (host_of plan) new.0.1.to ∙ mine,
-          at.1,
-          (let high = subst (λ (n : ℕ). length (grants_at v n) < f.pmac.vmid) at.1 more.0.0 in omega (arith, low, high)),
-        ),
-        new_behind fs new.1 more.1 low,
-      )
-
-  newest_now : (t : ℕ) (u : SwitchView) (x : Pmac) (g : Grant) (h : ℕ) → slice_get (set switches s w) t ≡ Some u → granted u x ≡ Some g → host_of plan g.amac ≡ Some h →
-      IsBeforeLast plan (all_written plan s entries gs) t u h x
-  unfolding within there IsNotBefore
-  newest_now t u x g h is found_there of = elim (at_same switches s w t u within is) [
+  last_now : (t : ℕ) (u : SwitchView) (x : Pmac) (g : Grant) (h : ℕ) → slice_get (set switches s w) t ≡ Some u → granted u x ≡ Some g → is_in_use g.held ≡ true →
+      host_of plan g.amac ≡ Some h → granted_at (all_written plan s entries gs) h (at_port t x.port) ≡ Some x
+  unfolding within there
+  last_now t u x g h is found_there used of = elim (at_same switches s w t u within is) [
     | inl here ↦
-        subst (λ (n : ℕ). IsBeforeLast plan (all_written plan s entries gs) n u h x) (sym here.0)
-        (subst (λ (q : SwitchView). IsBeforeLast plan (all_written plan s entries gs) s q h x) here.1
-        (last_now x g h (ap (λ (q : SwitchView). granted q x) here.1 ∙ found_there) of))
+        subst (λ (n : ℕ). granted_at (all_written plan s entries gs) h (at_port n x.port) ≡ Some x) (sym here.0)
+        (last_here x g h (ap (λ (q : SwitchView). granted q x) here.1 ∙ found_there) used of)
     | inr other ↦
-        let last = before.newest t u x g h other.1 found_there of in
-        let l = last_stays plan s gs entries (λ y. y ≡ last.last) t h x.port
-        (all_weaker (IsNewlyGiven v w) (GivesGood plan s (λ y. y ≡ last.last) t h x.port) (λ f new mine at. absurd (other.0 (sym at.0))) gs fresh)
-        (record { last = last.last; is_last = last.is_last; good = refl }) in
-        record {
-          last = last.last;
-          grant = last.grant;
-          is_last = l.is_last ∙ ap Some l.good;
-          found = last.found;
-          of_mac = last.of_mac;
-          same_port = last.same_port;
-          not_before = last.not_before;
-        }
+        let l = last_stays plan s gs entries (λ y. y ≡ x) t h x.port
+        (all_weaker (IsNewlyGiven v w) (GivesGood plan s (λ y. y ≡ x) t h x.port) (λ f new mine at. absurd (other.0 (sym at.0))) gs fresh)
+        (record { last = x; is_last = before.last t u x g h other.1 found_there used of; good = refl }) in
+        l.is_last ∙ ap Some l.good
   ]
 
   -- what was granted there is still
@@ -228,7 +218,7 @@ module _ (plan : Plan) (learnt : Learnt) (switches : List SwitchView) (attachmen
       let same = alike plan s gs entries (all_weaker (IsNewlyGiven v w) (λ g. number entries (pmac_number g.pmac) ≡ None) none_yet gs fresh) in
       record {
         grants = grants_now;
-        newest = newest_now;
+        last = last_now;
         backed = all_backed plan s (set switches s w) gs entries
             (all_weaker (IsNewlyGiven v w) (λ g. IsGrantedThere (set switches s w) g.pmac s g.pmac.port)
             (λ g new. record { view = w; grant = new.1.grant; found = there; is = new.1.found; port_is = refl }) gs fresh)

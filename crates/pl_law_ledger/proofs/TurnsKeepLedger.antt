@@ -44,7 +44,7 @@ use Rattle.pl_law_ledger.proofs.Giving.{givings, newly_given}
 use Rattle.pl_law_ledger.proofs.Numbering.{LearnsBy, Numbering, all_numbered, learns, nothing_entered, numberings, one_entered, said_parts}
 use Rattle.pl_law_ledger.proofs.StepsKeepLedger.{fits_there, step_entered}
 use Rattle.pl_law_ledger.proofs.StepTakes.{ComesWell, step_takes}
-use Rattle.pl_law_ledger.proofs.Takes.{AreOf, IsListed, Takes}
+use Rattle.pl_law_ledger.proofs.Takes.{AreOf, Enters, IsListed}
 use Rattle.pl_law_ledger.proofs.GrantsWritten.{Parts, all_written, parts_of, stepped_parts, written}
 
 abbrev pub IsIn : Parts → Type 0
@@ -66,7 +66,7 @@ pub record IsTurn (w : WorldView) (s : ℕ) (v : SwitchView) (step : SwitchStep)
   pub listed : IsListed v
   pub sources : AreOf (StoodAt w s) v
   pub grows : Grows v step
-  pub takes : Takes (StoodAt w s) v step
+  pub enters : Enters (StoodAt w s) v step
 
 module _ (w : WorldView) (s : ℕ) (input : SwitchInput) (speech : SpokenFrame) (new : WorldView) (down : List (List ToSwitch))
     (addressed : AreAddressed w.plan w.manager w.switches w.to_manager down) (l : IsIn (parts_of w)) (formed : AreFormed new.switches)
@@ -100,7 +100,7 @@ module _ (w : WorldView) (s : ℕ) (input : SwitchInput) (speech : SpokenFrame) 
         listed = listed;
         sources = sources;
         grows = (brings turn.before turn.found turn.ruled.choose).grows (items_at w.to_manager s) unknown ready;
-        takes = step_takes (StoodAt w s) turn.ruled.choose turn.before listed sources input (well turn.before turn.found);
+        enters = step_takes (StoodAt w s) turn.ruled.choose turn.before listed sources input (well turn.before turn.found);
       }
 
   pub switch_ledger : IsIn (parts_of new)
@@ -112,8 +112,8 @@ module _ (w : WorldView) (s : ℕ) (input : SwitchInput) (speech : SpokenFrame) 
       (subst (λ (p : Parts). AllByRecursion IsShaped p.switches) turn_parts formed.shaped)
       (subst (λ (p : Parts). AreInBounds p.switches) turn_parts formed.bounds)
       (subst (λ (p : Parts). AreApart p.switches) turn_parts formed.apart)
-      t.grows.stays (newly_given turn.before step.view step.acts t.grows.fresh) (t.takes.given t.listed t.sources) (t.takes.covers t.listed) (t.takes.further t.listed) (t.takes.rising t.listed)
-      (t.takes.few t.listed (λ port. l.few s turn.before port turn.found)) (t.takes.sources t.sources))
+      t.grows.stays (newly_given turn.before step.view step.acts t.grows.fresh) (t.enters.given t.listed t.sources) (t.enters.covers t.listed) (t.enters.last t.listed)
+      (t.enters.few t.listed (λ port. l.few s turn.before port turn.found)) (t.enters.sources t.sources))
 
 -- ---- the manager
 pub manager_ledger : (w : WorldView) (s : ℕ) (told : ToManager) (items : List ToManager) (new : WorldView) →

@@ -10,9 +10,10 @@ use Rattle.pl_wiring.specs.Plan.{Plan}
 use Rattle.pl_journal.specs.declared.entry.Entry.{Entry}
 use Rattle.pl_journal.specs.declared.entry.Entry.TheVariants.{Freed, Granted, Moved, Registered}
 use Rattle.pl_journal.specs.Places.{EdgePort, at_port, granted_at, has_stood, holder, is_live, number, registered, edge_port}
+use Rattle.pl_node.specs.AddressUses.{is_in_use}
 use Rattle.pl_node.specs.declared.switch_records.Grant.{Grant}
 use Rattle.pl_node.specs.declared.switch_records.Source.{Source}
-use Rattle.pl_node.specs.ManagerViews.{Learnt, registry}
+use Rattle.pl_node.specs.ManagerViews.{Learnt}
 use Rattle.pl_node.specs.SwitchViews.{SwitchView}
 use Rattle.pl_switch_rule.specs.Granting.{granted, grants_at, is_local, remembered_at}
 use Rattle.pl_world.specs.declared.attachment.AttachmentPoint.{AttachmentPoint}
@@ -45,16 +46,6 @@ pub record IsEntered (plan : Plan) (entries : List Entry) (s : ℕ) (x : Pmac) (
   pub there : edge_port entries (pmac_number x) ≡ Some (at_port s x.port)
   pub for_hosts : peer_of plan s x.port ≡ HostPort
 
--- of the addresses that switch s granted to a host at the port of this one, the last that is written down was not granted before it
-pub record IsBeforeLast (plan : Plan) (entries : List Entry) (s : ℕ) (v : SwitchView) (h : ℕ) (x : Pmac) : Type 0 where
-  pub last : Pmac
-  pub grant : Grant
-  pub is_last : granted_at entries h (at_port s x.port) ≡ Some last
-  pub found : granted v last ≡ Some grant
-  pub of_mac : host_of plan grant.amac ≡ Some h
-  pub same_port : last.port ≡ x.port
-  pub not_before : x.vmid ≤ last.vmid
-
 -- an address that is written down as granted at a port is granted there
 pub record IsGrantedThere (switches : List SwitchView) (x : Pmac) (s port : ℕ) : Type 0 where
   pub view : SwitchView
@@ -71,8 +62,9 @@ pub record AreEntered (plan : Plan) (learnt : Learnt) (switches : List SwitchVie
   -- each address that a switch granted is written down, and each one that is written down is granted
   pub grants : (s : ℕ) (v : SwitchView) (x : Pmac) (g : Grant) → slice_get switches s ≡ Some v → granted v x ≡ Some g → IsEntered plan entries s x g
   pub backed : AllByRecursion (IsBacked switches) entries
-  pub newest : (s : ℕ) (v : SwitchView) (x : Pmac) (g : Grant) (h : ℕ) → slice_get switches s ≡ Some v → granted v x ≡ Some g → host_of plan g.amac ≡ Some h →
-      IsBeforeLast plan entries s v h x
+  -- the address that a host has in use at a port is the last that was granted to it there
+  pub last : (s : ℕ) (v : SwitchView) (x : Pmac) (g : Grant) (h : ℕ) → slice_get switches s ≡ Some v → granted v x ≡ Some g → is_in_use g.held ≡ true →
+      host_of plan g.amac ≡ Some h → granted_at entries h (at_port s x.port) ≡ Some x
   -- no port has more than 65,535 addresses
   pub few : (s : ℕ) (v : SwitchView) (port : ℕ) → slice_get switches s ≡ Some v → length (grants_at v port) ≤ 65535
   -- each source that a switch remembers at a port is a host's that has stood there
@@ -84,7 +76,7 @@ pub record AreEntered (plan : Plan) (learnt : Learnt) (switches : List SwitchVie
   pub numbers : (x : Pmac) → PmacFits x → number entries (pmac_number x) ≡ number_of (registry_of learnt) x
   -- an address with a number was granted
   pub numbered : (n m : ℕ) → number entries n ≡ Some m → (h : ℕ) × (holder entries n ≡ Some h)
-  pub count : registered entries ≡ length (registry learnt)
+  pub count : registered entries ≡ learnt.count
 
 -- So it is in a world.
 abbrev pub IsLedger : WorldView → Type 0

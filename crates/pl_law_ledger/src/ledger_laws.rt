@@ -1,4 +1,12 @@
+ghost use Rattle.std.specs.Prelude.{◌≡◌, ℕ, Some, reverse, slice_get, true};
 ghost use Rattle.pl_wiring.specs.Plan.{Plan};
+ghost use Rattle.pl_pmac.specs.declared.pmac.Pmac.{Pmac};
+ghost use Rattle.pl_journal.specs.Places.{at_port, granted_at};
+ghost use Rattle.pl_node.specs.AddressUses.{is_in_use};
+ghost use Rattle.pl_node.specs.declared.switch_records.Grant.{Grant};
+ghost use Rattle.pl_node.specs.SwitchViews.{SwitchView};
+ghost use Rattle.pl_switch_rule.specs.Granting.{granted};
+ghost use Rattle.pl_world.specs.Changes.{host_of};
 ghost use Rattle.pl_manager_rule.specs.ManagerRule.{manager_rule};
 ghost use Rattle.pl_switch_rule.specs.SwitchRule.{Loose};
 ghost use Rattle.pl_world.specs.declared.event.Event.{Event};
@@ -10,7 +18,7 @@ ghost use Rattle.pl_world.specs.Worlds.{WorldView};
 ghost use Rattle.pl_law_control_plane.specs.HostsAtEdges.{HostsAtEdges};
 ghost use Rattle.pl_law_addresses.specs.Addressed.{AreApart, IsGrounded};
 ghost use Rattle.pl_law_addresses.specs.InOrder.{AddressesAreInOrder};
-ghost use Rattle.pl_law_ledger.specs.Ledgers.{AreInBounds, IsLedger};
+ghost use Rattle.pl_law_ledger.specs.Ledgers.{AreInBounds, IsLedger, ledger};
 
 use pl_node::HostLogic;
 
@@ -26,4 +34,11 @@ pub fn each_step_keeps_the_ledger<H: HostLogic>()
     ensures { (old : WorldView) (event : Event) (new : WorldView) → IsCounted old → IsCounted new → HostsAtEdges old → AddressesAreInOrder old → IsGrounded old →
         AreApart new.switches → AreInBounds old.switches → AreInBounds new.switches → WorldStep Loose manager_rule H.rule old event new →
         IsLedger old → IsLedger new }
+{}
+
+/// The address that a host has in use at a port is the last that was granted to it there, as the journal says.
+pub fn an_address_in_use_is_the_last_granted()
+    ensures { (w : WorldView) → IsLedger w → (s : ℕ) (v : SwitchView) (x : Pmac) (g : Grant) (h : ℕ) → slice_get w.switches s ≡ Some v →
+        granted v x ≡ Some g → is_in_use g.held ≡ true → host_of w.plan g.amac ≡ Some h →
+        granted_at (ledger (reverse w.journal)) h (at_port s x.port) ≡ Some x }
 {}

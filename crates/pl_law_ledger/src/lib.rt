@@ -5,7 +5,9 @@
 //! and no more numbers of pods are given than there are pods.
 #![tactic(auto)]
 
-pub use ledger_laws::{each_step_keeps_the_ledger, the_ledger_begins_empty};
+pub use ledger_laws::{
+    an_address_in_use_is_the_last_granted, each_step_keeps_the_ledger, the_ledger_begins_empty,
+};
 pub use run_laws::{
     no_more_numbers_are_given_than_there_are_pods,
     only_edge_switches_with_position_0_ask_in_every_run,

@@ -1,10 +1,11 @@
 -- What follows for one step, and for runs.
 use Rattle.std.proofs.Common.{◌≡◌, ℕ, zero, suc, ◌+◌, ◌≤◌, ◌==◌, Bool, true, false, if◌then◌else◌, List, [], ◌∷◌, ◌++◌, length, map, reverse, drop, set, slice_get, Option, Some, None, refl, sym, ap, ◌∙◌, subst, arith, append-nil, append_assoc, eq-eqb, ne_eqb, inl, inr, ◌⊎◌}
-use Rattle.std.specs.List.{cons_option, filter_map, range_with_len}
+use Rattle.std.specs.List.{AllByRecursion, cons_option, filter_map, range_with_len}
 use Rattle.std.proofs.Math.Seq.{drop-append_seam}
 use Rattle.std.proofs.lemmas.Option.{same_Some}
-use Rattle.std.proofs.lemmas.List.{length-append, length-map, length-reverse, reverse-append, reverse-reverse}
+use Rattle.std.proofs.lemmas.List.{length-append, length_push, map-append, reverse-append}
 use Rattle.std.proofs.lemmas.List.Elements.{filter_map-append}
+use Rattle.pl_lemmas.proofs.Exports.{range_more}
 use Rattle.pl_frame.specs.declared.address.SwitchId.{SwitchId}
 use Rattle.pl_pmac.specs.declared.pmac.Pmac.{Pmac}
 use Rattle.pl_layouts.specs.declared.place.Place.{Place}
@@ -14,12 +15,11 @@ use Rattle.pl_wiring.specs.Plan.{Plan}
 use Rattle.pl_journal.specs.declared.entry.Entry.{Entry}
 use Rattle.pl_journal.specs.declared.entry.Entry.TheVariants.{Arrived, Copied, Crossed, Dropped, Freed, Granted, Line, LinkDown, LinkUp, Made, Moved, Placed, Redirected, Registered, Sent, Settled, Skipped, Taken, Unsettled}
 use Rattle.pl_node.specs.HostInputs.{HostRule}
-use Rattle.pl_node.specs.ManagerDuties.{AnswersDuly, ManagerRule, numbered_by, with_number}
-use Rattle.pl_node.specs.ManagerViews.{Registration, registry}
+use Rattle.pl_node.specs.ManagerDuties.{AnswersDuly, AreNumbered, ManagerRule, numbered_by, with_number}
+use Rattle.pl_node.specs.ManagerViews.{Learnt, registry}
 use Rattle.pl_node.specs.SwitchFacts.{switch_at_boot}
 use Rattle.pl_node.specs.SwitchInputs.{SwitchRule}
 use Rattle.pl_node.specs.SwitchViews.{SwitchView}
-use Rattle.pl_manager_rule.proofs.Exports.{numbers_in_order}
 use Rattle.pl_world.specs.declared.event.Event.{Event}
 use Rattle.pl_world.specs.declared.limits.Limits.{Limits}
 use Rattle.pl_world.specs.Booting.{booted}
@@ -67,21 +67,21 @@ module _ (switch : SwitchRule) (manager : ManagerRule) (host : HostRule) (old : 
       by (Managed id told after acts ruled is adds switches) =
           ap placings (entries_written old new [] _ adds) ∙ adds.of_places ∙ sym (ap (new_places 0 old.switches) switches ∙ none_new 0 old.switches)
 
-  pub registrations_written : AnswersDuly manager →
-      map with_number (registry new.manager.learnt) ≡ registrations (written old new) ++ map with_number (registry old.manager.learnt)
+  pub registrations_written : AnswersDuly manager → AreNumbered old.manager.learnt new.manager.learnt (registrations (written old new))
   registrations_written duly = by (outcome manager switch host old happens new step)
     where
-      none : (registered : List (Pmac × ℕ)) → registered ≡ [] → new.manager ≡ old.manager →
-          map with_number (registry new.manager.learnt) ≡ registered ++ map with_number (registry old.manager.learnt)
-      none registered is same = ap (λ m. map with_number (registry m.learnt)) same ∙ ap (λ rs. rs ++ map with_number (registry old.manager.learnt)) (sym is)
+      none : (registered : List (Pmac × ℕ)) → registered ≡ [] → new.manager ≡ old.manager → AreNumbered old.manager.learnt new.manager.learnt registered
+      none registered is same =
+          subst (AreNumbered old.manager.learnt new.manager.learnt) (sym is)
+          (subst (λ m. AreNumbered old.manager.learnt m.learnt []) (sym same) (record { registered = refl; count = omega arith; next = tt }))
 
-      by : Outcome manager old new → map with_number (registry new.manager.learnt) ≡ registrations (written old new) ++ map with_number (registry old.manager.learnt)
+      by : Outcome manager old new → AreNumbered old.manager.learnt new.manager.learnt (registrations (written old new))
       by (Neither q) = none (registrations (written old new)) (ap registrations (entries_written old new [] [] q.adds) ∙ q.adds.of_registrations) q.manager
       by (Turned s before after found switches adds stays) =
           none (registrations (written old new)) (ap registrations (entries_written old new _ [] adds) ∙ adds.of_registrations) stays
       by (Managed id told after acts ruled is adds switches) =
-          ap (λ m. map with_number (registry m.learnt)) is ∙ duly.numbered old.manager id told after acts ruled
-          ∙ ap (λ rs. rs ++ map with_number (registry old.manager.learnt)) (sym (ap registrations (entries_written old new [] _ adds) ∙ adds.of_registrations))
+          subst (AreNumbered old.manager.learnt new.manager.learnt) (sym (ap registrations (entries_written old new [] _ adds) ∙ adds.of_registrations))
+          (subst (λ m. AreNumbered old.manager.learnt m.learnt (filter_map numbered_by acts)) (sym is) (duly.numbered old.manager id told after acts ruled))
 
   -- in one step there is no more than one
   pub one_registered : AnswersDuly manager → length (registrations (written old new)) ≤ 1
@@ -94,11 +94,8 @@ module _ (switch : SwitchRule) (manager : ManagerRule) (host : HostRule) (old : 
       by (Managed id told after acts ruled is adds switches) =
           let here = ap (λ rs. length rs) (ap registrations (entries_written old new [] _ adds) ∙ adds.of_registrations) in
           let more = (duly.grows old.manager id told after acts ruled).addresses in
-          let all = ap (λ rs. length rs) (duly.numbered old.manager id told after acts ruled) in
-          let before = length-map (registry old.manager.learnt) with_number in
-          let then_all = length-map (registry after.learnt) with_number in
-          let sum = length-append (filter_map numbered_by acts) (map with_number (registry old.manager.learnt)) in
-          omega (arith, here, more, all, before, then_all, sum)
+          let count = (duly.numbered old.manager id told after acts ruled).count in
+          omega (arith, here, more, count)
 
   pub journal_grows : new.journal ≡ old.journal ++ written old new
   journal_grows = by (outcome manager switch host old happens new step)
@@ -243,9 +240,26 @@ written_at_first plan limits s v found = nowhere_yet plan.ids s found
 
 -- Registrations.
 
--- they are those of the manager, the newest first
-abbrev AreRegistered : WorldView → Type 0
-AreRegistered w = reverse (registrations w.journal) ≡ map with_number (registry w.manager.learnt)
+-- those of the journal are the manager's, which has the newest first; they are counted, and numbered in order
+pub record AreRegistered (registered : List (Pmac × ℕ)) (learnt : Learnt) : Type 0 where
+  pub same : reverse registered ≡ map with_number (registry learnt)
+  pub count : learnt.count ≡ length registered
+  pub numbers : map (λ (r : Pmac × ℕ). r.1) registered ≡ range_with_len 1 (length registered)
+
+abbrev pub HasRegistered : WorldView → Type 0
+HasRegistered w = AreRegistered (registrations w.journal) w.manager.learnt
+
+-- one more has the next number
+numbers_more : (rs more : List (Pmac × ℕ)) (n : ℕ) → length more ≤ 1 → AllByRecursion (λ (r : Pmac × ℕ). r.1 ≡ n) more → n ≡ length more + length rs →
+    map (λ (r : Pmac × ℕ). r.1) rs ≡ range_with_len 1 (length rs) → map (λ (r : Pmac × ℕ). r.1) (rs ++ more) ≡ range_with_len 1 (length (rs ++ more))
+numbers_more rs [] n few next is before =
+    subst (λ (xs : List (Pmac × ℕ)). map (λ (r : Pmac × ℕ). r.1) xs ≡ range_with_len 1 (length xs)) (sym (append-nil rs)) before
+numbers_more rs (x ∷ []) n few next is before =
+    let number : x.1 ≡ 1 + length rs = next.0 ∙ is in
+    let long : length (rs ++ x ∷ []) ≡ suc (length rs) = let more = length_push rs x in omega (arith, more) in
+    map-append (λ (r : Pmac × ℕ). r.1) rs (x ∷ []) ∙ ap (λ ns. ns ++ x.1 ∷ []) before
+    ∙ ap (λ m. range_with_len 1 (length rs) ++ m ∷ []) number ∙ sym (range_more 1 (length rs)) ∙ ap (range_with_len 1) (sym long)
+numbers_more rs (x ∷ y ∷ more) n few next is before = absurd (omega (arith, few))
 
 few_reversed : {X : Type 0} (xs : List X) → length xs ≤ 1 → reverse xs ≡ xs
 few_reversed [] few = refl
@@ -253,43 +267,32 @@ few_reversed (x ∷ []) few = refl
 few_reversed (x ∷ y ∷ xs) few = absurd (omega (arith, few))
 
 module _ (switch : SwitchRule) (manager : ManagerRule) (host : HostRule) (duly : AnswersDuly manager) where
-  step_registered : (old : WorldView) (happens : Event) (new : WorldView) → WorldStep switch manager host old happens new → AreRegistered old → AreRegistered new
+  step_registered : (old : WorldView) (happens : Event) (new : WorldView) → WorldStep switch manager host old happens new → HasRegistered old → HasRegistered new
   step_registered old happens new step are =
       let more = registrations (written old new) in
-      ap (λ j. reverse (registrations j)) (journal_grows switch manager host old happens new step)
-      ∙ ap reverse (filter_map-append registration_in old.journal (written old new)) ∙ reverse-append (registrations old.journal) more
-      ∙ ap (λ rs. rs ++ reverse (registrations old.journal)) (few_reversed more (one_registered switch manager host old happens new step duly))
-      ∙ ap (λ rs. more ++ rs) are ∙ sym (registrations_written switch manager host old happens new step duly)
+      let rs = registrations old.journal in
+      let few = one_registered switch manager host old happens new step duly in
+      let given = registrations_written switch manager host old happens new step duly in
+      let all : registrations new.journal ≡ rs ++ more =
+      ap registrations (journal_grows switch manager host old happens new step) ∙ filter_map-append registration_in old.journal (written old new) in
+      let counted : new.manager.learnt.count ≡ length more + length rs = given.count ∙ ap (λ n. length more + n) are.count in
+      subst (λ those. AreRegistered those new.manager.learnt) (sym all) (record {
+        same = reverse-append rs more ∙ ap (λ xs. xs ++ reverse rs) (few_reversed more few) ∙ ap (λ xs. more ++ xs) are.same ∙ sym given.registered;
+        count = let long = length-append rs more in omega (arith, counted, long);
+        numbers = numbers_more rs more new.manager.learnt.count few given.next counted are.numbers;
+      })
 
-  marked_registered : (old : WorldView) (entry : Entry) → IsMark entry → AreRegistered old → AreRegistered (noted old entry)
+  marked_registered : (old : WorldView) (entry : Entry) → IsMark entry → HasRegistered old → HasRegistered (noted old entry)
   marked_registered old entry mark are =
-      ap reverse (filter_map-append registration_in old.journal (entry ∷ []) ∙ ap (λ o. registrations old.journal ++ cons_option o []) (mark_is_other entry mark).1
-      ∙ append-nil (registrations old.journal)) ∙ are
+      subst (λ those. AreRegistered those old.manager.learnt)
+      (sym (filter_map-append registration_in old.journal (entry ∷ []) ∙ ap (λ o. registrations old.journal ++ cons_option o []) (mark_is_other entry mark).1
+      ∙ append-nil (registrations old.journal))) are
 
-  pub run_registered : (old : WorldView) (moments : List Moment) (new : WorldView) → AreRegistered old → WorldRun switch manager host old moments new → AreRegistered new
-  run_registered old [] new are same = subst AreRegistered (sym same) are
+  pub run_registered : (old : WorldView) (moments : List Moment) (new : WorldView) → HasRegistered old → WorldRun switch manager host old moments new → HasRegistered new
+  run_registered old [] new are same = subst HasRegistered (sym same) are
   run_registered old (Step event ∷ moments) new are run = run_registered run.0 moments new (step_registered old event run.0 run.1.1 are) run.2
   run_registered old (Mark entry ∷ moments) new are run =
-      run_registered run.0 moments new (subst AreRegistered (sym run.1.1) (marked_registered old entry run.1.0 are)) run.2
+      run_registered run.0 moments new (subst HasRegistered (sym run.1.1) (marked_registered old entry run.1.0 are)) run.2
 
-map_reversed : {X Y : Type 0} (f : X → Y) (xs : List X) → map f (reverse xs) ≡ reverse (map f xs)
-map_reversed f [] = refl
-map_reversed f (x ∷ xs) =
-    ap (map f) (reverse-append (x ∷ []) xs) ∙ map_append f (reverse xs) (x ∷ []) ∙ ap (λ ys. ys ++ f x ∷ []) (map_reversed f xs) ∙ sym (reverse-append (f x ∷ []) (map f xs))
-  where
-    map_append : {A B : Type 0} (g : A → B) (front back : List A) → map g (front ++ back) ≡ map g front ++ map g back
-    map_append g [] back = refl
-    map_append g (a ∷ front) back = ap (λ ys. g a ∷ ys) (map_append g front back)
-
-numbers_of : (rs : List Registration) → map (λ (r : Pmac × ℕ). r.1) (map with_number rs) ≡ map (λ r. r.number) rs
-numbers_of [] = refl
-numbers_of (r ∷ rs) = ap (λ ns. r.number ∷ ns) (numbers_of rs)
-
--- so their numbers are 1, 2, 3 and so on
-pub numbers_registered : (w : WorldView) → AreRegistered w → map (λ (r : Pmac × ℕ). r.1) (registrations w.journal) ≡ range_with_len 1 (length (registrations w.journal))
-numbers_registered w are =
-    let rs = registry w.manager.learnt in
-    let same : registrations w.journal ≡ reverse (map with_number rs) = sym (reverse-reverse (registrations w.journal)) ∙ ap reverse are in
-    let long : length (registrations w.journal) ≡ length rs = ap (λ xs. length xs) same ∙ length-reverse (map with_number rs) ∙ length-map rs with_number in
-    ap (map (λ (r : Pmac × ℕ). r.1)) same ∙ map_reversed (λ (r : Pmac × ℕ). r.1) (map with_number rs) ∙ ap reverse (numbers_of rs)
-    ∙ numbers_in_order w.manager.learnt.addresses ∙ ap (range_with_len 1) (sym long)
+pub registered_at_first : (plan : Plan) (limits : Limits) → HasRegistered (booted plan limits)
+registered_at_first plan limits = record { same = refl; count = refl; numbers = refl }

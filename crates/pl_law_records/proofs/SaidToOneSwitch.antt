@@ -129,9 +129,9 @@ reply_orders_nothing before after s (tell.Query asker asker_ip ip) = (answer_ord
 reply_orders_nothing before after s (tell.Learned pmac amac ip) = by (list_any (λ r. same_pmac r.pmac pmac) (registry before.learnt))
   where
     by : (b : Bool) → AllByRecursion OrdersNothing (if b then []
-        else Number pmac (length (registry before.learnt) + 1) ∷ invalidation after.learnt pmac (length (registry before.learnt) + 1) (newest before.learnt amac))
+        else Number pmac (before.learnt.count + 1) ∷ invalidation after.learnt pmac (before.learnt.count + 1) (newest before.learnt amac))
     by true = tt
-    by false = (tt, invalidation_orders_nothing after.learnt pmac (length (registry before.learnt) + 1) (newest before.learnt amac))
+    by false = (tt, invalidation_orders_nothing after.learnt pmac (before.learnt.count + 1) (newest before.learnt amac))
 
 silent_of : {X : Type 0} (said : ToSwitch → Option X) (id : SwitchId) → ((w : ToSwitch) → IsNoOrder w → said w ≡ None) → (acts : List ManagerAct) → AllByRecursion OrdersNothing acts →
     AllByRecursion (IsSilent said id) acts

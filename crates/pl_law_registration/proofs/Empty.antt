@@ -1,18 +1,17 @@
 -- A fabric at rest has nothing in its queues.
-use Rattle.std.proofs.Common.{◌≡◌, ◌<◌, ◌≤◌, ◌+◌, ◌-◌, ◌*◌, ◌/◌, ◌%◌, ◌&&◌, ℕ, nat_lt, Bool, true, false, cond, None, refl, sym, ap, subst, ◌∙◌, arith, length}
+use Rattle.std.proofs.Common.{◌≡◌, ◌<◌, ◌≤◌, ◌+◌, ◌-◌, ◌*◌, ℕ, nat_lt, Bool, true, false, cond, None, refl, sym, ap, ◌∙◌, arith, length}
 use Rattle.std.proofs.lemmas.Bool.{and_parts, ltb-true}
 use Rattle.std.proofs.lemmas.Bool.Decides.{Decides-ltb}
 use Rattle.std.proofs.lemmas.Nat.{div-add-mod'}
 use Rattle.pl_wiring.specs.Index.{port_index}
 use Rattle.pl_wiring.specs.Labels.{switch_count}
-use Rattle.pl_wiring.specs.Plan.{Plan}
 use Rattle.pl_wiring.proofs.Exports.{port_index-below}
 use Rattle.pl_queues.specs.Queues.{has_items, items_at}
 use Rattle.pl_world.specs.declared.event.QueueName.{QueueName}
 use Rattle.pl_world.specs.declared.event.QueueName.TheVariants as queue
 use Rattle.pl_world.specs.Changes.{host_no, switch_no}
-use Rattle.pl_world.specs.QueueOrder.{first_from_manager, first_out, first_to_manager, has_items_at, next_queue, port_queue, queue_at, queue_count}
-use Rattle.pl_world.specs.Refusals.{has_host, has_port, has_queue, has_switch, is_filled}
+use Rattle.pl_world.specs.QueueOrder.{first_from_manager, first_out, first_to_manager, next_queue, port_queue, queue_at, queue_count}
+use Rattle.pl_world.specs.Refusals.{has_switch, is_filled}
 use Rattle.pl_world.specs.Worlds.{WorldView}
 use Rattle.pl_fabric.proofs.Exports.{next_is_first}
 use Rattle.pl_law_registration.specs.BeingRegistered.{NothingWaits}

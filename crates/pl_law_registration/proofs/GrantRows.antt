@@ -1,5 +1,5 @@
 -- Which hosts a switch grants addresses to: the sources of the frames that come, and those that it remembers.
-use Rattle.std.proofs.Common.{◌≡◌, ◌-◌, ◌||◌, ℕ, zero, suc, Bool, true, false, if◌then◌else◌, get_or, set, List, [], ◌∷◌, Option, Some, None, Result, Ok, Err, refl, sym, ap, subst}
+use Rattle.std.proofs.Common.{◌≡◌, ◌||◌, ℕ, zero, suc, Bool, true, false, if◌then◌else◌, get_or, set, List, [], ◌∷◌, Option, Some, None, Result, Ok, Err, refl, sym, ap, subst}
 use Rattle.std.specs.List.{AllByRecursion}
 use Rattle.std.proofs.lemmas.Bool.{cond_both}
 use Rattle.pl_lemmas.proofs.Exports.{all_append}

@@ -1,5 +1,5 @@
 -- What settlings leave.
-use Rattle.std.proofs.Common.{◌≡◌, ◌<◌, ℕ, List, [], ◌∷◌, ◌++◌, None, refl, sym, subst}
+use Rattle.std.proofs.Common.{◌<◌, ℕ, List, [], ◌∷◌, ◌++◌, None, subst}
 use Rattle.pl_wiring.specs.Plan.{Plan}
 use Rattle.pl_node.specs.Accounting.{AllowsNoMore}
 use Rattle.pl_node.specs.HostDuties.{HostsSendData, HostsSendOwn}
@@ -15,7 +15,7 @@ use Rattle.pl_world.specs.Runs.{Moment, WorldRun}
 use Rattle.pl_world.specs.Worlds.{WorldView}
 use Rattle.pl_fabric.specs.declared.settling.Settling.{Settling}
 use Rattle.pl_fabric.specs.Settlings.{IsAtRest, Settles}
-use Rattle.pl_fabric.proofs.Exports.{IsRun, rounds_are_run}
+use Rattle.pl_fabric.proofs.Exports.{rounds_are_run}
 use Rattle.pl_law_invariant.proofs.Exports.{run_lawful}
 use Rattle.pl_law_registration.specs.Registering.{AreRegistered}
 use Rattle.pl_law_registration.proofs.Registered.{run_registers}

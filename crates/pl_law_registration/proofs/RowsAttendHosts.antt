@@ -17,6 +17,8 @@ use Rattle.pl_node.specs.declared.acts.Act.{Act}
 use Rattle.pl_node.specs.declared.acts.Act.TheVariants as act
 use Rattle.pl_node.specs.declared.messages.ToSwitch.{ToSwitch}
 use Rattle.pl_node.specs.declared.messages.ToSwitch.TheVariants as say
+use Rattle.pl_node.specs.AddressUses.{is_in_use, standing_trap}
+use Rattle.pl_node.specs.declared.address_use.AddressUse.TheVariants.{Trapped}
 use Rattle.pl_node.specs.declared.switch_records.Grant.{Grant}
 use Rattle.pl_node.specs.declared.trap.Trap.{Trap}
 use Rattle.pl_node.specs.PortRecords.{is_open_to_hosts, port_of, with_port}
@@ -227,7 +229,7 @@ module _ (me : Me) (port : ℕ) where
 
   module _ (v : SwitchView) (old : Pmac) (trap : Trap) (g : Grant) (was : granted v old ≡ Some g) where
     standing : Grant
-    standing = record g { in_use = false; trap = Some (newer_trap trap g.trap) }
+    standing = record g { held = Trapped (newer_trap trap (standing_trap g.held)) 0 }
 
     trapped : SwitchView
     trapped = sets_trap v old g trap
@@ -263,7 +265,7 @@ module _ (me : Me) (port : ℕ) where
               (serves (ap (λ n. nat_lt n 65535) (sym (length-set (grants_at v port) (old.vmid - 1) standing) ∙ ap (λ (gs : List Grant). length gs) (sym (list_now same within))) ∙ room));
         })
 
-    probed : (used : g.in_use ≡ true) → (mac : g.amac ≡ me.mac) → (ip : g.ip ≡ Some me.ip) → port ≡ old.port → IsProbed step.acts
+    probed : (used : is_in_use g.held ≡ true) → (mac : g.amac ≡ me.mac) → (ip : g.ip ≡ Some me.ip) → port ≡ old.port → IsProbed step.acts
     unfolding standing trapped step
     probed used mac ip same =
         let first = (does (sets_trap v old g trap) [] ▹ forgets_members old.port g.amac) in
@@ -281,7 +283,7 @@ module _ (me : Me) (port : ℕ) where
         elim (cases_eq s.vmid old.vmid) [
           | inl number ↦
               let one : s.grant ≡ g = same_Some s.grant g (sym s.found ∙ ap (λ n. grant_number (grants_at v n) s.vmid) same ∙ ap (λ n. grant_number (grants_at v old.port) n) number ∙ parts.1) in
-              inr (probed (ap (λ (q : Grant). q.in_use) (sym one) ∙ s.used) (ap (λ (q : Grant). q.amac) (sym one) ∙ s.mac) (ap (λ (q : Grant). q.ip) (sym one) ∙ s.ip) same)
+              inr (probed (ap (λ (q : Grant). is_in_use q.held) (sym one) ∙ s.used) (ap (λ (q : Grant). q.amac) (sym one) ∙ s.mac) (ap (λ (q : Grant). q.ip) (sym one) ∙ s.ip) same)
           | inr other ↦
               inl (here_known same within (λ room. record {
                 vmid = s.vmid;

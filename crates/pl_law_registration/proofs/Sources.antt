@@ -8,6 +8,7 @@ use Rattle.pl_frame.specs.Ethernet.{source_of}
 use Rattle.pl_arp.specs.declared.cache.Me.{Me}
 use Rattle.pl_layouts.specs.declared.place.Place.{Place}
 use Rattle.pl_layouts.specs.Placement.{is_known, is_placed}
+use Rattle.pl_node.specs.AddressUses.{is_in_use}
 use Rattle.pl_node.specs.declared.switch_records.Grant.{Grant}
 use Rattle.pl_node.specs.declared.switch_records.Source.{Source}
 use Rattle.pl_node.specs.SwitchViews.{SwitchView}
@@ -139,7 +140,7 @@ module _ (me : Me) where
     pub vmid : ℕ
     pub grant : Grant
     pub found : grant_number gs vmid ≡ Some grant
-    pub used : grant.in_use ≡ true
+    pub used : is_in_use grant.held ≡ true
     pub mac : grant.amac ≡ me.mac
     pub ip : grant.ip ≡ Some me.ip
 

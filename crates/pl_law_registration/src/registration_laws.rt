@@ -1,18 +1,10 @@
-ghost use Rattle.std.specs.Prelude.{◌≡◌, ℕ, false, true};
-ghost use Rattle.pl_wiring.specs.declared.host.Host.{Host};
-ghost use Rattle.pl_layouts.specs.Placement.{is_placed};
-ghost use Rattle.pl_node.specs.SwitchViews.{SwitchView};
 ghost use Rattle.pl_manager_rule.specs.ManagerRule.{manager_rule};
-ghost use Rattle.pl_switch_rule.specs.Granting.{is_port_spent};
 ghost use Rattle.pl_switch_rule.specs.SwitchRule.{Loose};
-ghost use Rattle.pl_world.specs.declared.attachment.AttachmentPoint.{AttachmentPoint};
-ghost use Rattle.pl_world.specs.Booting.{me_of};
 ghost use Rattle.pl_world.specs.Runs.{InEveryRun};
 ghost use Rattle.pl_world.specs.Worlds.{WorldView};
 ghost use Rattle.pl_law_invariant.specs.ControlInvariant.{ControlInvariant};
-ghost use Rattle.pl_law_registration.specs.BeingRegistered.{AreBeingRegistered, NothingWaits, HostIsAttached};
+ghost use Rattle.pl_law_registration.specs.BeingRegistered.{AreBeingRegistered, NothingWaits};
 ghost use Rattle.pl_law_registration.specs.Registering.{AreRegistered};
-ghost use Rattle.pl_law_registration.specs.Stays.{has_reached};
 
 use pl_host_rule::LawfulHost;
 use pl_manager_rule::LawfulManager;

@@ -262,8 +262,8 @@ module _ (plan : Plan) (is : IsPlan plan) where
 
   learning_true : (before after : Learnt) (pmac : Pmac) (amac : Mac) → AreTrueSaid (learning before after pmac amac)
   learning_true before after pmac amac =
-      cond_both _ [] (Number pmac (length (registry before) + 1) ∷ invalidation after pmac (length (registry before) + 1) (newest before amac)) AreTrueSaid
-      (λ known. tt) (λ new. (tt, recalled_true after pmac (length (registry before) + 1) (newest before amac)))
+      cond_both _ [] (Number pmac (before.count + 1) ∷ invalidation after pmac (before.count + 1) (newest before amac)) AreTrueSaid
+      (λ known. tt) (λ new. (tt, recalled_true after pmac (before.count + 1) (newest before amac)))
 
   reply_true : (before after : ManagerView) (id : SwitchId) (told : ToManager) → AreTrueSaid (reply before after id told)
   reply_true before after id tell.PodWanted = (λ s named. tt, tt)

@@ -17,6 +17,7 @@ use Rattle.pl_journal.specs.declared.cause.Cause.TheVariants.{NotPlaced}
 use Rattle.pl_journal.specs.Places.{EdgePort}
 use Rattle.pl_node.specs.declared.acts.Act.{Act}
 use Rattle.pl_node.specs.declared.acts.Act.TheVariants as act
+use Rattle.pl_node.specs.AddressUses.{is_in_use}
 use Rattle.pl_node.specs.declared.switch_records.Grant.{Grant}
 use Rattle.pl_node.specs.declared.trap.Trap.{Trap}
 use Rattle.pl_node.specs.declared.messages.ToSwitch.{ToSwitch}
@@ -226,7 +227,7 @@ invalidates_single v old trap (Some grant) shaped at =
     let quiet : IsQuiet v forgot = quiet_then_quiet v (does set []) (forgets_members old.port grant.amac) trapped
     (λ w same. quiet_forgets_members w old.port grant.amac same.shaped) in
     still_single false forgot.acts (probes old grant forgot.view).acts (quiet_still v forgot quiet)
-    (cond_both grant.in_use (probes_at old grant.amac grant.ip forgot.view) (rests forgot.view) (λ step. AreSingle false step.acts)
+    (cond_both (is_in_use grant.held) (probes_at old grant.amac grant.ip forgot.view) (rests forgot.view) (λ step. AreSingle false step.acts)
     (λ used. probes_single old grant.amac grant.ip forgot.view false) (λ unused. tt))
 
 pub hears_single : (choose : Choice) (v : SwitchView) (says : ToSwitch) → IsShaped v → AreSingle false (hears_manager choose v says).acts

@@ -17,6 +17,7 @@ use Rattle.pl_node.specs.declared.acts.Act.{Act}
 use Rattle.pl_node.specs.declared.acts.Act.TheVariants as act
 use Rattle.pl_node.specs.declared.messages.ToSwitch.{ToSwitch}
 use Rattle.pl_node.specs.declared.messages.ToSwitch.TheVariants.{Answer, Avoid, Flood, Invalidate, Pod, Tree}
+use Rattle.pl_node.specs.AddressUses.{is_in_use}
 use Rattle.pl_node.specs.declared.switch_records.Grant.{Grant}
 use Rattle.pl_node.specs.declared.switch_records.Member.{Member}
 use Rattle.pl_node.specs.declared.trap.Trap.{Trap}
@@ -120,7 +121,7 @@ module _ (plan : Plan) (place : ℕ → Place) (history : AddressHistory) (t : �
       silent_groups u.members (filter (λ (m : Member). not (is_member old.port grant.amac m)) u.members) in
       let P : SwitchStep → Type 0 = λ step. GoodActs plan place history t ((forgets_members old.port grant.amac u).acts ++ step.acts) Empty in
       record {
-        good = cond_both grant.in_use (probes_at old grant.amac grant.ip w) (rests w) P
+        good = cond_both (is_in_use grant.held) (probes_at old grant.amac grant.ip w) (rests w) P
             (λ used. silent_good plan place history t (forgets_members old.port grant.amac u).acts _ Empty silent (probed old grant found grant.ip w))
             (λ unused. silent_good plan place history t (forgets_members old.port grant.amac u).acts [] Empty silent tt);
         stays = ap (λ (x : SwitchView). x.place) (probes_stay old grant w);

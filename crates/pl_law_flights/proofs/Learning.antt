@@ -18,6 +18,7 @@ use Rattle.pl_journal.specs.declared.entry.Entry.{Entry}
 use Rattle.pl_journal.specs.declared.entry.Entry.TheVariants.{Granted}
 use Rattle.pl_journal.specs.Lossy.{mac_of_host, IsNewer}
 use Rattle.pl_journal.specs.Places.{EdgePort, at_port, edge_port, live_holder, number}
+use Rattle.pl_node.specs.AddressUses.{is_in_use, standing_trap}
 use Rattle.pl_node.specs.declared.switch_records.Grant.{Grant}
 use Rattle.pl_node.specs.declared.trap.Trap.{Trap}
 use Rattle.pl_node.specs.SwitchViews.{SwitchView}
@@ -55,26 +56,26 @@ module _ {X : Type 0} (p : X → Bool) where
 none_is : (n : ℕ) → suc n ≡ 0 → ⊥
 none_is n e = omega arith
 
-pub in_use_set : (gs : List Grant) (mac : Mac) (vmid : ℕ) (g h : Grant) → grant_number gs vmid ≡ Some g → h.in_use ≡ g.in_use → h.amac ≡ g.amac →
+pub in_use_set : (gs : List Grant) (mac : Mac) (vmid : ℕ) (g h : Grant) → grant_number gs vmid ≡ Some g → is_in_use h.held ≡ is_in_use g.held → h.amac ≡ g.amac →
     in_use (set gs (vmid - 1) h) mac ≡ in_use gs mac
 in_use_set gs mac zero g h found used same = absurd (none-some g found)
 in_use_set gs mac (suc n) g h found used same =
     let some : (suc n == 0) ≡ false = ne_eqb (suc n) 0 (λ e. none_is n e) in
-    position_set (λ (a : Grant). a.in_use && same_mac a.amac mac) gs (suc n - 1) 1 g h (sym (cond-false (suc n == 0) None (slice_get gs (suc n - 1)) some) ∙ found) (ap₂ (λ b m. b && same_mac m mac) used same)
+    position_set (λ (a : Grant). is_in_use a.held && same_mac a.amac mac) gs (suc n - 1) 1 g h (sym (cond-false (suc n == 0) None (slice_get gs (suc n - 1)) some) ∙ found) (ap₂ (λ b m. b && same_mac m mac) used same)
 
 pub in_use_push : (gs : List Grant) (mac : Mac) (ip : Option Ip4) → in_use gs mac ≡ None → in_use (gs ++ new_grant mac ip ∷ []) mac ≡ Some (length gs + 1)
 in_use_push gs mac ip none =
-    position_push (λ (a : Grant). a.in_use && same_mac a.amac mac) gs 1 (new_grant mac ip) none (mac_itself mac) ∙ ap Some (omega arith)
+    position_push (λ (a : Grant). is_in_use a.held && same_mac a.amac mac) gs 1 (new_grant mac ip) none (mac_itself mac) ∙ ap Some (omega arith)
 
 -- ---- the IPv4 address of an address
 -- the same grants, but for their IPv4 addresses
 pub record AgreesWith (v w : SwitchView) : Type 0 where
   pub local : (y : Pmac) → is_local w y ≡ is_local v y
   pub pod : w.place.pod ≡ v.place.pod
-  pub some : (y : Pmac) (h : Grant) → granted w y ≡ Some h → (g : Grant) × (granted v y ≡ Some g) × (g.amac ≡ h.amac) × (g.trap ≡ h.trap)
+  pub some : (y : Pmac) (h : Grant) → granted w y ≡ Some h → (g : Grant) × (granted v y ≡ Some g) × (g.amac ≡ h.amac) × (standing_trap g.held ≡ standing_trap h.held)
   pub none : (y : Pmac) → granted w y ≡ None → granted v y ≡ None
 
-trap_there : (o : Option Grant) (trap : Trap) → grant_trap o ≡ Some trap → (g : Grant) × (o ≡ Some g) × (g.trap ≡ Some trap)
+trap_there : (o : Option Grant) (trap : Trap) → grant_trap o ≡ Some trap → (g : Grant) × (o ≡ Some g) × (standing_trap g.held ≡ Some trap)
 trap_there None trap is = absurd (none-some trap is)
 trap_there (Some g) trap is = (g, refl, is)
 
@@ -132,7 +133,7 @@ module _ (v : SwitchView) (port vmid : ℕ) (g : Grant) (ip : Ip4) (settled : is
         some = λ y h is. elim (is_or_other y x) [
           | inl it ↦
               let same : known ≡ h = same_Some known h (sym now ∙ ap (λ z. granted (with_grants v port list) z) (sym it) ∙ is) in
-              (g, ap (λ z. granted v z) it ∙ was, ap (λ (k : Grant). k.amac) same, ap (λ (k : Grant). k.trap) same)
+              (g, ap (λ z. granted v z) it ∙ was, ap (λ (k : Grant). k.amac) same, ap (λ (k : Grant). standing_trap k.held) same)
           | inr other ↦ (h, sym (others y other) ∙ is, refl, refl)
         ];
         none = λ y is. elim (is_or_other y x) [

@@ -18,6 +18,7 @@ use Rattle.pl_layouts.proofs.Exports.{destination_of-arriving, known_is, length-
 use Rattle.pl_journal.specs.declared.cause.Cause.TheVariants.{BadArp, NotPlaced, Spent}
 use Rattle.pl_node.specs.declared.acts.Act.{Act}
 use Rattle.pl_node.specs.declared.acts.Act.TheVariants.{Drop, Pass}
+use Rattle.pl_node.specs.AddressUses.{is_in_use, standing_trap}
 use Rattle.pl_node.specs.declared.switch_records.Grant.{Grant}
 use Rattle.pl_node.specs.PortRecords.{is_open_to_hosts, port_of}
 use Rattle.pl_node.specs.SwitchInputs.SwitchInput.{Comes}
@@ -41,7 +42,7 @@ pub record HasInUse (v : SwitchView) (port : ℕ) (amac : Mac) : Type 0 where
   pub grant : Grant
   pub found : granted v address ≡ Some grant
   pub at_port : address.port ≡ port
-  pub used : grant.in_use ≡ true
+  pub used : is_in_use grant.held ≡ true
   pub to : grant.amac ≡ amac
 
 pub local_is_placed : (v : SwitchView) (x : Pmac) → is_local v x ≡ true → is_placed v.place ≡ true
@@ -69,8 +70,8 @@ has_address v port amac is =
     let number = (granted_parts v is.address is.grant is.found).1 in
     let there = numbered_at (grants_at v is.address.port) is.address.vmid is.grant number in
     let same = (bytes_eq-Decides is.grant.amac.0 amac.0).1 (ap (λ (m : Mac). m.0) is.to) in
-    let some = found_in (λ g. g.in_use && same_mac g.amac amac) 1 (is.address.vmid - 1) (grants_at v is.address.port) is.grant there
-    (and_from is.grant.in_use (same_mac is.grant.amac amac) is.used same) in
+    let some = found_in (λ g. is_in_use g.held && same_mac g.amac amac) 1 (is.address.vmid - 1) (grants_at v is.address.port) is.grant there
+    (and_from (is_in_use is.grant.held) (same_mac is.grant.amac amac) is.used same) in
     and_right (is_placed v.place) (not (is_some (in_use (grants_at v port) amac)))
     (ap not (subst (λ p. is_some (in_use (grants_at v p) amac) ≡ true) is.at_port some))
 
@@ -163,7 +164,7 @@ module _ (choose : Choice) (v : SwitchView) (frame : List ℕ) (unicast : is_gro
   abbrev where_to : SwitchStep
   where_to = if is_local v (destination frame) then arrives_home choose v frame else forwards choose v (Some FromHost) frame
 
-  pub sends_home : (grant : Grant) → is_local v (destination frame) ≡ true → granted v (destination frame) ≡ Some grant → grant.trap ≡ None →
+  pub sends_home : (grant : Grant) → is_local v (destination frame) ≡ true → granted v (destination frame) ≡ Some grant → standing_trap grant.held ≡ None →
       sends_in choose frame v ≡ does v (Pass (destination frame).port (arriving frame None (Some grant.amac)) ∷ [])
   sends_home grant own found free =
       cond-false (is_group (destination_of frame)) (forwards_group v (Some FromHost) frame) where_to unicast

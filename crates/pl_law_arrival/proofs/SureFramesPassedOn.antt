@@ -9,6 +9,7 @@ use Rattle.pl_layouts.specs.Frames.{arriving}
 use Rattle.pl_layouts.specs.Memberships.{is_group}
 use Rattle.pl_layouts.specs.Placement.{is_placed}
 use Rattle.pl_node.specs.declared.acts.Act.TheVariants.{Pass}
+use Rattle.pl_node.specs.AddressUses.{standing_trap}
 use Rattle.pl_node.specs.declared.switch_records.Grant.{Grant}
 use Rattle.pl_node.specs.PortRecords.{is_open_to_hosts, place_at, port_of, ports_of_switch}
 use Rattle.pl_node.specs.SwitchInputs.SwitchInput.{Comes}
@@ -76,7 +77,7 @@ module _ (choose : Choice) (v : SwitchView) (q : ℕ) (frame : List ℕ) (well :
       ∙ ap (λ c. forwards choose v c frame) came_so ∙ ap (leaves_by v frame) found
 
 -- at the addressed edge switch, where the address is granted and no trap stands for it
-pub arrives : (choose : Choice) (v : SwitchView) (frame : List ℕ) (grant : Grant) → granted v (destination frame) ≡ Some grant → grant.trap ≡ None →
+pub arrives : (choose : Choice) (v : SwitchView) (frame : List ℕ) (grant : Grant) → granted v (destination frame) ≡ Some grant → standing_trap grant.held ≡ None →
     arrives_home choose v frame ≡ does v (Pass (destination frame).port (arriving frame None (Some grant.amac)) ∷ [])
 arrives choose v frame grant found free =
     ap (λ o. delivers_or_redirects choose v frame o ▹ tells_sender choose frame o) no_trap
@@ -86,7 +87,7 @@ arrives choose v frame grant found free =
     no_trap = ap grant_trap found ∙ free
 
 pub arrives_over_link : (choose : Choice) (v : SwitchView) (q : ℕ) (frame : List ℕ) (grant : Grant) → ComesWell v q frame → is_local v (destination frame) ≡ true →
-    granted v (destination frame) ≡ Some grant → grant.trap ≡ None →
+    granted v (destination frame) ≡ Some grant → standing_trap grant.held ≡ None →
     switch_step choose v (Comes q frame) ≡ does v (Pass (destination frame).port (arriving frame None (Some grant.amac)) ∷ [])
 arrives_over_link choose v q frame grant well here found free =
     step_is choose v q frame well ∙ cond-true (is_local v (destination frame)) (arrives_home choose v frame) (forwards choose v (came_by v q) frame) here

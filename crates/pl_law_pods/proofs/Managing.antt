@@ -1,5 +1,5 @@
 -- What the manager says of pods.
-use Rattle.std.proofs.Common.{◌≡◌, ℕ, ◌+◌, Bool, true, false, if◌then◌else◌, cond, List, [], ◌∷◌, ◌++◌, length, map, flat_map, Option, Some, None, unwrap_or, IsSome, position, refl, subst, eqb-true}
+use Rattle.std.proofs.Common.{◌≡◌, ℕ, ◌+◌, Bool, true, false, if◌then◌else◌, cond, List, [], ◌∷◌, ◌++◌, map, flat_map, Option, Some, None, unwrap_or, IsSome, position, refl, subst, eqb-true}
 use Rattle.std.specs.List.{AllByRecursion, list_any}
 use Rattle.std.proofs.lemmas.List.Quantifiers.{position-Some}
 use Rattle.pl_lemmas.proofs.Exports.{all_append}
@@ -61,9 +61,9 @@ due_reply before s (tell.Learned pmac amac ip) =
     by (list_any (λ r. same_pmac r.pmac pmac) (registry before.learnt)) (view_after before s (tell.Learned pmac amac ip)).learnt
   where
     by : (b : Bool) (after : Learnt) → AllByRecursion (IsDue before.askers) (if b then []
-        else Number pmac (length (registry before.learnt) + 1) ∷ invalidation after pmac (length (registry before.learnt) + 1) (newest before.learnt amac))
+        else Number pmac (before.learnt.count + 1) ∷ invalidation after pmac (before.learnt.count + 1) (newest before.learnt amac))
     by true after = tt
-    by false after = (tt, due_invalidation before.askers after pmac (length (registry before.learnt) + 1) (newest before.learnt amac))
+    by false after = (tt, due_invalidation before.askers after pmac (before.learnt.count + 1) (newest before.learnt amac))
 
 -- all that the manager does in a step
 pub due_acts : (before : ManagerView) (s : SwitchId) (told : ToManager) → AllByRecursion (IsDue (view_after before s told).askers) (manager_hears before s told).acts

@@ -1,5 +1,5 @@
 -- A switch tells its wish for a pod only where it has position 0.
-use Rattle.std.proofs.Common.{◌≡◌, ℕ, true, List, [], ◌∷◌, Some}
+use Rattle.std.proofs.Common.{◌≡◌, true, List, [], ◌∷◌, Some}
 use Rattle.std.specs.List.{AllByRecursion, list_any}
 use Rattle.std.proofs.lemmas.Bool.{false≢true}
 use Rattle.pl_layouts.specs.declared.place.Place.{Place}

@@ -30,7 +30,7 @@ use Rattle.pl_world.specs.Changes.{host_of}
 use Rattle.pl_world.specs.Worlds.{WorldView}
 use Rattle.pl_law_control_plane.specs.ControlPlanes.{control_plane, no_switch}
 use Rattle.pl_law_addresses.specs.Registries.{registry_of}
-use Rattle.pl_law_addresses.proofs.Exports.{first_passes, granted_here, known_same}
+use Rattle.pl_law_addresses.proofs.Exports.{first_passes, granted_here, known_same, trap_leads}
 use Rattle.pl_law_invariant.specs.ControlInvariant.{ControlInvariant}
 use Rattle.pl_law_ledger.specs.Ledgers.{IsBacked, IsGrantedThere, ledger}
 use Rattle.pl_law_ledger.proofs.Exports.{fits_there, grounds, held_somewhere, in_bounds, IsAlike, IsEnteredAll, of_edge, same_says, Says, says}
@@ -192,7 +192,7 @@ module _ (w : WorldView) (kept : ControlInvariant w) (entered : IsEnteredAll w) 
       by : (o : Option Grant) → granted v x ≡ o → grant_trap o ≡ Some trap → TrapLeadsOn (history_of (reverse w.journal)) x trap
       by None at e = absurd (none-some trap e)
       by (Some g) at e =
-          let leads = (((kept.addresses.addressed.edges t v found).grants x g at).trapped trap e).0 in
+          let leads = trap_leads w kept.addresses.addressed t v found x g at trap e in
           let old = registered_so x leads.before leads.found_before in
           let new = registered_so trap.new leads.after leads.found_after in
           let host : new.host ≡ old.host =

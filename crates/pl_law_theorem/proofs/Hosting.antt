@@ -1,6 +1,6 @@
 -- What switches know of the hosts at their ports is what the journal says; and so all is given that each step needs but for groups.
 use Rattle.std.proofs.Common.{◌≡◌, ◌≤◌, ◌<◌, ◌+◌, ◌-◌, ◌==◌, ◌&&◌, not, nat_lt, ℕ, if◌then◌else◌, cond, Bool, true, false, Contains, List, [], ◌∷◌, length, reverse, Option, Some, None, is_none, option_map, slice_get, refl, sym, ap, subst, ◌∙◌, inl, inr, arith}
-use Rattle.std.proofs.lemmas.Bool.{and_from, and_parts, cases_Bool, cases_lt, eqb-true, false≢true, lt-ltb, ltb-true, or_right}
+use Rattle.std.proofs.lemmas.Bool.{and_from, cases_Bool, cases_lt, eqb-true, false≢true, lt-ltb, ltb-true, or_right}
 use Rattle.std.proofs.lemmas.List.{get_or_past}
 use Rattle.std.proofs.lemmas.List.Elements.{All-contains, All-from_recursion}
 use Rattle.std.proofs.lemmas.Option.{get_or_from_slice_get, same_Some}
@@ -10,7 +10,6 @@ use Rattle.pl_frame.specs.Ethernet.{source_of}
 use Rattle.pl_pmac.specs.declared.pmac.Pmac.{Pmac}
 use Rattle.pl_pmac.specs.Pmac.{PmacFits, pmac_number}
 use Rattle.pl_pmac.proofs.Exports.{same_pmac_number}
-use Rattle.pl_layouts.specs.Placement.{is_known}
 use Rattle.pl_wiring.specs.declared.host.Host.{Host}
 use Rattle.pl_journal.specs.declared.entry.Entry.{Entry}
 use Rattle.pl_journal.specs.declared.entry.Entry.TheVariants.{Granted}
@@ -21,7 +20,6 @@ use Rattle.pl_node.specs.Accounting.{IsShaped}
 use Rattle.pl_node.specs.PortRecords.{port_of}
 use Rattle.pl_node.specs.SwitchViews.{SwitchView}
 use Rattle.pl_switch_rule.specs.Granting.{address_at_port, grant_number, granted, grants_at, in_use, is_port_spent}
-use Rattle.pl_switch_rule.proofs.Exports.{granted_parts}
 use Rattle.pl_queues.specs.Queues.{items_at}
 use Rattle.pl_world.specs.declared.item.Item.{Item}
 use Rattle.pl_world.specs.declared.item.Item.TheVariants.{Data}
@@ -32,13 +30,13 @@ use Rattle.pl_law_control_plane.specs.ControlPlanes.{control_plane, no_switch}
 use Rattle.pl_law_control_plane.specs.HostsAtEdges.{IsAtEdge}
 use Rattle.pl_law_addresses.specs.EdgeAddresses.{is_settled}
 use Rattle.pl_law_addresses.specs.OwnFrames.{IsOwnItem}
-use Rattle.pl_law_addresses.proofs.Exports.{exists_at, granted_here, known_same, local_here, number_past, used_is}
+use Rattle.pl_law_addresses.proofs.Exports.{exists_at, granted_here, local_here, number_past, used_is}
 use Rattle.pl_law_invariant.specs.ControlInvariant.{ControlInvariant}
 use Rattle.pl_law_ledger.specs.Ledgers.{IsBacked, ledger}
 use Rattle.pl_law_ledger.proofs.Exports.{grounds, IsEnteredAll, IsLast, IsLiveOne, live_there, same_says, Says, says, source_is, spent_there}
 use Rattle.pl_law_flights.specs.Standing.{KnowsHosts, StandsOn, StandsOnHosts}
 use Rattle.pl_law_flights.proofs.Exports.{host_by_mac}
-use Rattle.pl_law_theorem.proofs.Addressing.{each_entry, fits_at, host_at, is_next, knows_addresses}
+use Rattle.pl_law_theorem.proofs.Addressing.{each_entry, fits_at, is_next, knows_addresses}
 use Rattle.pl_law_theorem.proofs.Knowing.{knows_neighbours, knows_places}
 
 -- a place in a list of grants
@@ -71,26 +69,7 @@ module _ (w : WorldView) (kept : ControlInvariant w) (entered : IsEnteredAll w) 
       let here = local_here v port vmid settled in
       let is : granted v x ≡ Some u.grant = granted_here v x here ∙ u.found in
       let host : host_of w.plan u.grant.amac ≡ Some h = ap (host_of w.plan) u.mac_is ∙ host_by_mac w.plan h amac kept.counted.formed.plan of in
-      let b = entered.ledger.newest t v x u.grant h found is host in
-      let macs : u.grant.amac ≡ b.grant.amac = same_mac_of u.grant.amac b.grant.amac h host b.of_mac in
-      let most = (kept.addresses.addressed.edges t v found).last x b.last u.grant b.grant is b.found u.used macs (sym b.same_port) in
-      let least = b.not_before in
-      let vmids : b.last.vmid ≡ x.vmid = omega (arith, most, least) in
-      let there = (granted_parts v b.last b.grant b.found).0 in
-      let mine = and_parts (is_known v.place.level 0) (is_known v.place.pod x.pod && is_known v.place.position x.position) here in
-      let my = and_parts (is_known v.place.pod x.pod) (is_known v.place.position x.position) mine.1 in
-      let yours = and_parts (is_known v.place.level 0) (is_known v.place.pod b.last.pod && is_known v.place.position b.last.position) there in
-      let your = and_parts (is_known v.place.pod b.last.pod) (is_known v.place.position b.last.position) yours.1 in
-      let pods : b.last.pod ≡ x.pod = known_same v.place.pod b.last.pod x.pod your.0 my.0 in
-      let positions : b.last.position ≡ x.position = known_same v.place.position b.last.position x.position your.1 my.1 in
-      let same : b.last ≡ x = same_pmacs b.last x pods positions b.same_port vmids in
-      same_granted (reverse w.journal) h (at_port t port) ∙ b.is_last ∙ ap Some same
-    where
-      same_pmacs : (a b : Pmac) → a.pod ≡ b.pod → a.position ≡ b.position → a.port ≡ b.port → a.vmid ≡ b.vmid → a ≡ b
-      same_pmacs a b pod position port vmid = λ i. record { pod = pod i; position = position i; port = port i; vmid = vmid i }
-
-      same_mac_of : (a b : Mac) (n : ℕ) → host_of w.plan a ≡ Some n → host_of w.plan b ≡ Some n → a ≡ b
-      same_mac_of a b n at also = same_Some a b (sym (host_at w.plan a n at) ∙ host_at w.plan b n also)
+      same_granted (reverse w.journal) h (at_port t port) ∙ entered.ledger.last t v x u.grant h found is u.used host
 
   -- each address that was granted at a port is live
   live_so : (there : EdgePort) → are_live_there (is_live (reverse w.journal)) (reverse w.journal) there ≡ true

@@ -19,7 +19,7 @@ use Rattle.pl_node.specs.declared.messages.ToManager.{ToManager}
 use Rattle.pl_node.specs.declared.messages.ToManager.TheVariants as tell
 use Rattle.pl_node.specs.HostDuties.{HostsSendData, HostsSendOwn}
 use Rattle.pl_node.specs.HostInputs.{HostRule}
-use Rattle.pl_node.specs.ManagerViews.{Learnt, ManagerView, registry}
+use Rattle.pl_node.specs.ManagerViews.{Learnt, ManagerView}
 use Rattle.pl_node.specs.SwitchViews.{SwitchView}
 use Rattle.pl_node.specs.declared.switch_records.Grant.{Grant}
 use Rattle.pl_manager_rule.specs.Histories.{known}
@@ -154,7 +154,7 @@ module _ (w : WorldView) (kept : ControlInvariant w) (entered : IsEnteredAll w) 
           ap (λ (f : Says). f.numbers (pmac_number x)) (sym (same_says w.plan (reverse w.journal)))
           ∙ entered.ledger.numbers x (fits_at w kept entered s v x g found is) ∙ one.none
 
-      next : length (registry w.manager.learnt) + 1 ≡ registered (reverse w.journal) + 1
+      next : w.manager.learnt.count + 1 ≡ registered (reverse w.journal) + 1
       next = ap (λ n. n + 1) (sym (ap (λ (f : Says). f.many) (sym (same_says w.plan (reverse w.journal))) ∙ entered.ledger.count))
 
   pub numbers_well : ManagerNumbersWell manager_rule w

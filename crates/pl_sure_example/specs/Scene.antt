@@ -10,6 +10,7 @@ use Rattle.pl_wiring.specs.declared.link.Link.{Link}
 use Rattle.pl_journal.specs.declared.entry.Entry.{Entry}
 use Rattle.pl_journal.specs.declared.entry.Entry.TheVariants.{Sent}
 use Rattle.pl_journal.specs.Flights.{ends}
+use Rattle.pl_node.specs.declared.address_use.AddressUse.TheVariants.{InUse}
 use Rattle.pl_node.specs.declared.switch_records.Grant.{Grant}
 use Rattle.pl_node.specs.ManagerViews.{Registration, ip_of, newest, registration}
 use Rattle.pl_switch_rule.specs.Granting.{granted}
@@ -91,7 +92,7 @@ abbrev pub registered_as : Mac → ℕ → Pmac → ℕ → Registration
 registered_as mac ip x n = record { pmac = x; amac = mac; number = n; switch = record { 0 = 1 } }
 
 abbrev pub granted_to : Mac → ℕ → Grant
-granted_to mac ip = record { amac = mac; ip = Some (record { 0 = ip }); in_use = true; trap = None }
+granted_to mac ip = record { amac = mac; ip = Some (record { 0 = ip }); held = InUse 0 }
 
 -- each is, by the address of its port
 abbrev pub known_as : ℕ → Mac → ℕ → Pmac → ℕ → Known

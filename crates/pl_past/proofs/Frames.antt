@@ -12,11 +12,18 @@ use Rattle.pl_journal.specs.declared.cause.Cause.{Cause}
 use Rattle.pl_journal.specs.declared.entry.Entry.{Entry}
 use Rattle.pl_journal.specs.declared.entry.Entry.TheVariants.{Arrived, Copied, Crossed, Dropped, Granted, Made, Redirected, Sent, Taken}
 use Rattle.pl_journal.specs.Places.{EdgePort}
-use Rattle.pl_journal.specs.Flights.{Flight, address_at, begun, came_in, ends, first_flight, flight_of, has_just_come_in, is_begun, is_empty, is_flying, leg, sender, sender_address, trail}
+use Rattle.pl_journal.specs.Flights.{Flight, address_at, begun, came_in, ends, first_flight, flight_of, has_just_come_in, has_just_crossed, is_begun, is_empty, is_flying, leg, sender, sender_address, trail}
 use Rattle.pl_journal.specs.Lossy.{RunTo}
 use Rattle.pl_journal.proofs.Exports.{ends_after_it_begins, flight_made, flight_sent, flying_is_begun, next_is_new}
 use Rattle.pl_past.specs.Links.{crossed_at}
-use Rattle.pl_past.specs.Kept.{Kept, crossing, ending, entrance, first_kept, granting, kept, redirecting, touched_by}
+use Rattle.pl_past.specs.Moves.{sent_at}
+use Rattle.pl_past.specs.Addressees.{asked_at}
+use Rattle.pl_past.specs.Kept.{Kept, crossing, ending, entrance, first_kept, granting, is_single, kept, redirecting, touched_by}
+
+none_came_in : (past : List Entry) (id : ℕ) → has_just_crossed past id ≡ false → has_just_come_in past id ≡ false
+none_came_in [] id other = refl
+none_came_in (Crossed g s ∷ past) id other = rw other refl
+none_came_in (entry ∷ past) id other = refl
 
 -- An entry leaves what is kept of every frame but one.
 pub others_stay : (plan : Plan) (past : List Entry) (entry : Entry) (id : ℕ) → touched_by past entry id ≡ false → kept plan (entry ∷ past) id ≡ kept plan past id
@@ -28,7 +35,7 @@ others_stay plan past (Copied g c) id other = rw other refl
 others_stay plan past (Arrived g h f) id other = rw other refl
 others_stay plan past (Taken g s) id other = rw other refl
 others_stay plan past (Dropped g cause) id other = rw other refl
-others_stay plan past (Granted y h e p) id other = rw other refl
+others_stay plan past (Granted y h e p) id other = let none = none_came_in past id other in rw other (rw none refl)
 others_stay plan past entry id other = refl
 
 -- the shorter part of a part
@@ -58,12 +65,23 @@ when_it_crosses plan past g s =
       came_in = cond (is_empty (trail past g)) there (came_in plan past g);
       source = o;
       crossed = length past + 1;
+      asked = length past + 1;
     }) (same_source (is_empty (trail past g)) at there (came_in plan past g) (sender_address plan past g))))))
 
--- A grant that directly follows the first crossing of the frame.
-pub when_its_edge_grants : (plan : Plan) (past : List Entry) (x : Pmac) (h : HostNo) (e : SwitchNo) (p id : ℕ) → has_just_come_in past id ≡ true →
-    kept plan (Granted x h e p ∷ past) id ≡ granting (address_at (Granted x h e p ∷ past) (sender past id) (came_in plan past id)) (kept plan past id)
-when_its_edge_grants plan past x h e p id just = rw just refl
+-- A grant that directly follows a crossing of the frame. That crossing was its first where it crossed no more.
+empty_by_one : (xs : List ℕ) → is_empty (take 1 xs) ≡ is_empty xs
+empty_by_one [] = refl
+empty_by_one (x ∷ xs) = refl
+
+came_in_by_trail : (past : List Entry) (id : ℕ) → has_just_crossed past id ≡ true → has_just_come_in past id ≡ is_single (take 2 (trail past id))
+came_in_by_trail [] id just = absurd (false≢true just)
+came_in_by_trail (Crossed g s ∷ past) id just = rw just (sym (empty_by_one (trail past id)))
+came_in_by_trail (entry ∷ past) id just = absurd (false≢true just)
+
+pub when_its_edge_grants : (plan : Plan) (past : List Entry) (x : Pmac) (h : HostNo) (e : SwitchNo) (p id : ℕ) → has_just_crossed past id ≡ true →
+    kept plan (Granted x h e p ∷ past) id
+    ≡ granting (length past + 1) (address_at (Granted x h e p ∷ past) (sender past id) (came_in plan past id)) (kept plan past id)
+when_its_edge_grants plan past x h e p id just = let first = came_in_by_trail past id just in rw just (rw first refl)
 
 -- A frame that goes on to another address.
 pub when_it_is_redirected : (plan : Plan) (past : List Entry) (g : ℕ) (old new : Pmac) → kept plan (Redirected g old new ∷ past) g ≡ redirecting new (kept plan past g)
@@ -98,9 +116,40 @@ crossed_before plan (Crossed g s ∷ past) id run new =
     rw other (crossed_before plan past id run.0 new)
 crossed_before plan (entry ∷ past) id run new = crossed_before plan past id run.0 new
 
--- what is kept, of the flight and two more values
-abbrev of_flight : Flight → ℕ → ℕ → Kept
-of_flight f crossed ended = record {
+none_crossed : (plan : Plan) (past : List Entry) (id : ℕ) → RunTo plan past → is_begun past id ≡ false → has_just_crossed past id ≡ false
+none_crossed plan [] id run new = refl
+none_crossed plan (Crossed g s ∷ past) id run new = apart past g id (flying_is_begun past g run.1) new
+none_crossed plan (entry ∷ past) id run new = refl
+
+asked_before : (plan : Plan) (past : List Entry) (id : ℕ) → RunTo plan past → is_begun past id ≡ false → asked_at past id ≡ 0
+asked_before plan [] id run new = refl
+asked_before plan (Sent g h f ∷ past) id run new = asked_before plan past id run.0 (or_parts (g == id) (is_begun past id) new).1
+asked_before plan (Made g s f ∷ past) id run new = asked_before plan past id run.0 (or_parts (g == id) (is_begun past id) new).1
+asked_before plan (Copied g c ∷ past) id run new =
+    let parts = or_parts (c == id) (is_begun past id) new in
+    rw (parts.0) (asked_before plan past id run.0 parts.1)
+asked_before plan (Crossed g s ∷ past) id run new =
+    let other = apart past g id (flying_is_begun past g run.1) new in
+    rw other (asked_before plan past id run.0 new)
+asked_before plan (Granted y h e p ∷ past) id run new =
+    let other = none_crossed plan past id run.0 new in
+    rw other (asked_before plan past id run.0 new)
+asked_before plan (entry ∷ past) id run new = asked_before plan past id run.0 new
+
+sent_before : (plan : Plan) (past : List Entry) (id : ℕ) → RunTo plan past → is_begun past id ≡ false → sent_at past id ≡ 0
+sent_before plan [] id run new = refl
+sent_before plan (Sent g h f ∷ past) id run new =
+    let parts = or_parts (g == id) (is_begun past id) new in
+    rw (parts.0) (sent_before plan past id run.0 parts.1)
+sent_before plan (Made g s f ∷ past) id run new = sent_before plan past id run.0 (or_parts (g == id) (is_begun past id) new).1
+sent_before plan (Copied g c ∷ past) id run new =
+    let parts = or_parts (c == id) (is_begun past id) new in
+    rw (parts.0) (sent_before plan past id run.0 parts.1)
+sent_before plan (entry ∷ past) id run new = sent_before plan past id run.0 new
+
+-- what is kept, of the flight and four more values
+abbrev of_flight : Flight → ℕ → ℕ → ℕ → ℕ → Kept
+of_flight f crossed asked sent ended = record {
   root = f.root;
   sender = f.sender;
   beginning = f.beginning;
@@ -111,29 +160,38 @@ of_flight f crossed ended = record {
   came_in = f.came_in;
   source = f.source;
   crossed = crossed;
+  asked = asked;
+  sent = sent;
   over = not (ended == 0);
 }
 
 abbrev to : List ℕ → ℕ
 to frame = mac_number (destination_of frame)
 
-fresh : (plan : Plan) (past now : List Entry) (id : ℕ) (from : Option ℕ) (frame : List ℕ) → RunTo plan past → is_begun past id ≡ false →
-    flight_of plan now id ≡ first_flight id from frame (to frame) → crossed_at now id ≡ crossed_at past id → ends now id ≡ ends past id →
-    kept plan now id ≡ first_kept id from frame
-fresh plan past now id from frame run new flight crossed ended =
-    ap (λ f. of_flight f (crossed_at now id) (ends now id)) flight
-    ∙ ap (λ n. of_flight (first_flight id from frame (to frame)) n (ends now id)) (crossed ∙ crossed_before plan past id run new)
-    ∙ ap (λ n. of_flight (first_flight id from frame (to frame)) 0 n) (ended ∙ ends_after_it_begins plan past id run new)
+fresh : (plan : Plan) (past now : List Entry) (id : ℕ) (from : Option ℕ) (frame : List ℕ) (n : ℕ) → RunTo plan past → is_begun past id ≡ false →
+    flight_of plan now id ≡ first_flight id from frame (to frame) → crossed_at now id ≡ crossed_at past id → asked_at now id ≡ asked_at past id →
+    sent_at now id ≡ n → ends now id ≡ ends past id → kept plan now id ≡ first_kept id from frame n
+fresh plan past now id from frame n run new flight crossed asked sent ended =
+    ap (λ f. of_flight f (crossed_at now id) (asked_at now id) (sent_at now id) (ends now id)) flight
+    ∙ ap (λ m. of_flight (first_flight id from frame (to frame)) m (asked_at now id) (sent_at now id) (ends now id)) (crossed ∙ crossed_before plan past id run new)
+    ∙ ap (λ m. of_flight (first_flight id from frame (to frame)) 0 m (sent_at now id) (ends now id)) (asked ∙ asked_before plan past id run new)
+    ∙ ap (λ m. of_flight (first_flight id from frame (to frame)) 0 0 m (ends now id)) sent
+    ∙ ap (λ m. of_flight (first_flight id from frame (to frame)) 0 0 n m) (ended ∙ ends_after_it_begins plan past id run new)
 
 pub when_it_is_sent : (plan : Plan) (past : List Entry) (id : ℕ) (host : HostNo) (frame : List ℕ) → RunTo plan past → id ≡ begun past + 1 →
-    kept plan (Sent id host frame ∷ past) id ≡ first_kept id (Some host.0) frame
+    kept plan (Sent id host frame ∷ past) id ≡ first_kept id (Some host.0) frame (length past + 1)
 when_it_is_sent plan past id host frame run next =
-    fresh plan past (Sent id host frame ∷ past) id (Some host.0) frame run (next_is_new plan past id run next) (flight_sent plan past id host frame run next) refl refl
+    let new = next_is_new plan past id run next in
+    let same = eq-eqb id id refl in
+    let now : sent_at (Sent id host frame ∷ past) id ≡ length past + 1 = rw same refl in
+    fresh plan past (Sent id host frame ∷ past) id (Some host.0) frame (length past + 1) run new (flight_sent plan past id host frame run next) refl refl now refl
 
 pub when_it_is_made : (plan : Plan) (past : List Entry) (id : ℕ) (switch : SwitchNo) (frame : List ℕ) → RunTo plan past → id ≡ begun past + 1 →
-    kept plan (Made id switch frame ∷ past) id ≡ first_kept id None frame
+    kept plan (Made id switch frame ∷ past) id ≡ first_kept id None frame 0
 when_it_is_made plan past id switch frame run next =
-    fresh plan past (Made id switch frame ∷ past) id None frame run (next_is_new plan past id run next) (flight_made plan past id switch frame run next) refl refl
+    let new = next_is_new plan past id run next in
+    let none = sent_before plan past id run new in
+    fresh plan past (Made id switch frame ∷ past) id None frame 0 run new (flight_made plan past id switch frame run next) refl refl none refl
 
 -- A copy has all that its frame has.
 pub when_it_is_copied : (plan : Plan) (past : List Entry) (g c : ℕ) → RunTo plan past → is_flying past g ≡ true → c ≡ begun past + 1 →

@@ -4,3 +4,4 @@ pub mod Table
 pub mod LegLemmas
 pub mod MovesByNumbers
 pub mod HoldersByNumbers
+pub mod Exports

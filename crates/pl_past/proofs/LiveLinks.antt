@@ -39,7 +39,7 @@ live_within (LinkUp x y ∷ past) a b =
 live_within (entry ∷ past) a b = further (length past) (live_since past a b) (live_within past a b)
 
 -- a link is failed where it has no number
-failed_by_number : (past : List Entry) (a b : ℕ) → not (is_failed past a b) ≡ is_some (live_since past a b)
+pub failed_by_number : (past : List Entry) (a b : ℕ) → not (is_failed past a b) ≡ is_some (live_since past a b)
 failed_by_number [] a b = refl
 failed_by_number (LinkDown x y ∷ past) a b = down (same_ends x.0 y.0 a b) (is_failed past a b) (live_since past a b) (failed_by_number past a b)
   where

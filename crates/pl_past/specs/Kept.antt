@@ -9,8 +9,10 @@ use Rattle.pl_wiring.specs.Plan.{Plan}
 use Rattle.pl_journal.specs.declared.entry.Entry.{Entry}
 use Rattle.pl_journal.specs.declared.entry.Entry.TheVariants.{Arrived, Copied, Crossed, Dropped, Granted, Made, Redirected, Sent, Taken}
 use Rattle.pl_journal.specs.Places.{EdgePort, edge_port_of}
-use Rattle.pl_journal.specs.Flights.{address, beginning, begun, came_in, ends, has_just_come_in, if_of_switch, is_empty, is_redirected, leg, root, sender, sender_address, trail}
+use Rattle.pl_journal.specs.Flights.{address, beginning, begun, came_in, ends, has_just_crossed, if_of_switch, is_empty, is_redirected, leg, root, sender, sender_address, trail}
 use Rattle.pl_past.specs.Links.{crossed_at}
+use Rattle.pl_past.specs.Moves.{sent_at}
+use Rattle.pl_past.specs.Addressees.{asked_at}
 
 pub record Kept : Type 0 where
   pub root : ℕ
@@ -23,6 +25,8 @@ pub record Kept : Type 0 where
   pub came_in : Option EdgePort
   pub source : Option Pmac
   pub crossed : ℕ
+  pub asked : ℕ
+  pub sent : ℕ
   pub over : Bool
 
 -- five switches of a leg and two of a trail are enough
@@ -38,12 +42,14 @@ kept plan past id = record {
   came_in = came_in plan past id;
   source = sender_address plan past id;
   crossed = crossed_at past id;
+  asked = asked_at past id;
+  sent = sent_at past id;
   over = not (ends past id == 0);
 }
 
--- a frame that begins
-abbrev pub first_kept : ℕ → Option ℕ → List ℕ → Kept
-first_kept id from bytes = record {
+-- a frame that begins; entry n sent it, 0 where a switch made it
+abbrev pub first_kept : ℕ → Option ℕ → List ℕ → ℕ → Kept
+first_kept id from bytes n = record {
   root = id;
   sender = from;
   beginning = bytes;
@@ -54,6 +60,8 @@ first_kept id from bytes = record {
   came_in = None;
   source = None;
   crossed = 0;
+  asked = 0;
+  sent = n;
   over = false;
 }
 
@@ -69,11 +77,17 @@ crossing n s there source frame = record frame {
   came_in = if is_empty frame.trail then there else frame.came_in;
   source = if is_empty frame.trail then source else frame.source;
   crossed = n;
+  asked = n;
 }
 
--- one that came in just before a grant: the grant counts
-abbrev pub granting : Option Pmac → Kept → Kept
-granting source frame = record frame { source = source }
+-- one thing and no more
+abbrev pub is_single : List ℕ → Bool
+is_single [] = false
+is_single (x ∷ xs) = is_empty xs
+
+-- one that crossed a switch just before grant n: that grant counts for whom it is for, and for its source if it came in by that crossing
+abbrev pub granting : ℕ → Option Pmac → Kept → Kept
+granting n source frame = record frame { source = if is_single frame.trail then source else frame.source; asked = n }
 
 -- one that goes on to another address
 abbrev pub redirecting : Pmac → Kept → Kept
@@ -92,7 +106,7 @@ touched_by past (Copied g c) id = c == id
 touched_by past (Arrived g h f) id = g == id
 touched_by past (Taken g s) id = g == id
 touched_by past (Dropped g cause) id = g == id
-touched_by past (Granted y h e p) id = has_just_come_in past id
+touched_by past (Granted y h e p) id = has_just_crossed past id
 touched_by past entry id = false
 
 -- The frames of a table are what is kept of those that have begun, in order.

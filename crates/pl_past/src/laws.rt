@@ -7,7 +7,7 @@ ghost use Rattle.pl_journal.specs.declared.cause.Cause.{Cause};
 ghost use Rattle.pl_journal.specs.declared.entry.Entry.{Entry};
 ghost use Rattle.pl_journal.specs.declared.entry.Entry.TheVariants.{Arrived, Copied, Crossed, Dropped, Granted, Made, Redirected, Sent, Taken};
 ghost use Rattle.pl_journal.specs.Places.{is_of_edge, live_holder};
-ghost use Rattle.pl_journal.specs.Flights.{address_at, begun, came_in, has_just_come_in, has_moved_since, held_at_crossing, is_flying, leg, sender, was_live};
+ghost use Rattle.pl_journal.specs.Flights.{address_at, begun, came_in, has_just_crossed, has_moved_since, held_at_crossing, is_flying, leg, sender, was_live};
 ghost use Rattle.pl_journal.specs.Lossy.{RunTo, goes_well};
 ghost use Rattle.pl_past.specs.Moves.{edge_of, is_none_or, is_none_or_alike, moved_at, address_of_edge, sent_at};
 ghost use Rattle.pl_past.specs.Links.{live_since, was_live_by_numbers};
@@ -27,10 +27,10 @@ pub fn two_numbers_tell_whether_a_link_was_live()
 pub fn what_is_kept_of_a_frame_changes_by_its_own_entries()
     ensures sent { (plan : Plan) (past : List Entry) (id : ℕ) (host : HostNo) (frame : List ℕ) →
         RunTo plan past → id ≡ begun past + 1 →
-        kept plan (Sent id host frame ∷ past) id ≡ first_kept id (Some host.0) frame }
+        kept plan (Sent id host frame ∷ past) id ≡ first_kept id (Some host.0) frame (length past + 1) }
     ensures made { (plan : Plan) (past : List Entry) (id : ℕ) (switch : SwitchNo) (frame : List ℕ) →
         RunTo plan past → id ≡ begun past + 1 →
-        kept plan (Made id switch frame ∷ past) id ≡ first_kept id None frame }
+        kept plan (Made id switch frame ∷ past) id ≡ first_kept id None frame 0 }
     ensures copied { (plan : Plan) (past : List Entry) (id copy : ℕ) →
         RunTo plan past → is_flying past id ≡ true → copy ≡ begun past + 1 →
         kept plan (Copied id copy ∷ past) copy ≡ kept plan past id }
@@ -39,9 +39,9 @@ pub fn what_is_kept_of_a_frame_changes_by_its_own_entries()
         ≡ crossing (length past + 1) s.0 (entrance plan past id s.0)
         (address_at past (sender past id) (entrance plan past id s.0)) (kept plan past id) }
     ensures granted { (plan : Plan) (past : List Entry) (x : Pmac) (h : HostNo) (e : SwitchNo) (p id : ℕ) →
-        has_just_come_in past id ≡ true →
+        has_just_crossed past id ≡ true →
         kept plan (Granted x h e p ∷ past) id
-        ≡ granting (address_at (Granted x h e p ∷ past) (sender past id) (came_in plan past id)) (kept plan past id) }
+        ≡ granting (length past + 1) (address_at (Granted x h e p ∷ past) (sender past id) (came_in plan past id)) (kept plan past id) }
     ensures redirected { (plan : Plan) (past : List Entry) (id : ℕ) (old new : Pmac) →
         kept plan (Redirected id old new ∷ past) id ≡ redirecting new (kept plan past id) }
     ensures arrived { (plan : Plan) (past : List Entry) (id : ℕ) (h : HostNo) (f : List ℕ) →

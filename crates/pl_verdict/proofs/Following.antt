@@ -6,7 +6,7 @@ use Rattle.pl_journal.specs.declared.entry.Entry.{Entry}
 use Rattle.pl_journal.specs.Lossy.{GoodTrail, GoodTrailTo, Run, RunTo}
 use Rattle.pl_verdict.specs.Verdicts.{AllFollow, FirstFails}
 
-abbrev back : List Entry → List Entry → List Entry
+abbrev pub back : List Entry → List Entry → List Entry
 back past [] = past
 back past (entry ∷ entries) = back (entry ∷ past) entries
 
@@ -22,13 +22,13 @@ follow_whole : (plan : Plan) (past entries : List Entry) → RunTo plan past →
 follow_whole plan past [] run good all = (run, good)
 follow_whole plan past (entry ∷ entries) run good all = follow_whole plan (entry ∷ past) entries (run, all.0.0) (good, all.0.1) all.1
 
-back_is : (past entries : List Entry) → back past entries ≡ reverse entries ++ past
+pub back_is : (past entries : List Entry) → back past entries ≡ reverse entries ++ past
 back_is past [] = refl
 back_is past (entry ∷ entries) =
     back_is (entry ∷ past) entries ∙ sym (append_assoc (reverse entries) (entry ∷ []) past)
     ∙ ap (λ l. l ++ past) (sym (reverse-append (entry ∷ []) entries))
 
-whole : (journal : List Entry) → back [] journal ≡ reverse journal
+pub whole : (journal : List Entry) → back [] journal ≡ reverse journal
 whole journal = back_is [] journal ∙ append-nil (reverse journal)
 
 pub legal_is_run : (plan : Plan) (journal : List Entry) → AllFollow plan [] journal ↔ (Run plan journal × GoodTrail plan journal)

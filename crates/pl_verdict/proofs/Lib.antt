@@ -1,2 +1,4 @@
 pub mod Following
 pub mod OneVerdict
+pub mod Fitting
+pub mod Exports

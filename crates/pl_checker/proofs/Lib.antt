@@ -1,0 +1,17 @@
+pub mod Said
+pub mod Granted
+pub mod Holding
+pub mod Moving
+pub mod Failing
+pub mod Joining
+pub mod Rows
+pub mod Crosses
+pub mod Begins
+pub mod Redirects
+pub mod Ended
+pub mod Arrives
+pub mod Grants
+pub mod Standings
+pub mod Unaltered
+pub mod Quiet
+pub mod ShortLegs

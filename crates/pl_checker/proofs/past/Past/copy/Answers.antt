@@ -1,0 +1,27 @@
+use Rattle.std.proofs.Common.{refl, sym, subst}
+use Rattle.std.proofs.lemmas.Bool.{both_ways}
+use Rattle.pl_journal.specs.Flights.{is_flying}
+use Rattle.pl_checker.specs.Frames.{KeepsFrames}
+use Rattle.pl_checker.proofs.Begins.{copied_frames}
+use Rattle.pl_checker.proofs.past.Past.copy.Goals as goal
+
+pub returns-in_default : goal.returns-in_default
+returns-in_default c = λ text past keeps follows.
+    absurd (both_ways (is_flying past c.args.id) (c.in_default.ensures.none c.args.wiring.now text past keeps.run keeps.frames) follows.0.0)
+
+pub returns : goal.returns
+returns c = λ text past keeps follows.
+    let w = c.args.wiring.now in
+    let found = c.in-Some.ensures.found w text past keeps.run keeps.frames in
+    record {
+      run = (keeps.run, follows.0);
+      just = λ id. refl;
+      frames = subst (KeepsFrames w text _) (sym c.in_ok-begin.ensures)
+          (copied_frames w text past c.args.self.now.frames.rows.items c.args.id c.args.new c.in-Some.row keeps.run keeps.frames found.0 follows.0.2 found.1);
+      addresses = keeps.addresses;
+      fits = keeps.fits;
+      holders = keeps.holders;
+      hosts = keeps.hosts;
+      links = keeps.links;
+      groups = keeps.groups;
+    }

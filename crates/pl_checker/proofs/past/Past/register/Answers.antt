@@ -1,0 +1,16 @@
+use Rattle.std.proofs.Common.{refl}
+use Rattle.pl_checker.proofs.Rows.{no_row}
+use Rattle.pl_checker.proofs.past.Past.register.Goals as goal
+
+pub returns : goal.returns
+returns c = λ text past keeps follows. record {
+  run = (keeps.run, follows.0);
+  just = λ id. refl;
+  frames = no_row c.args.wiring.now text past _ c.args.self.now.frames.rows.items keeps.frames refl (λ id. refl);
+  addresses = c.in_ok-register.ensures past keeps.addresses follows.0.2;
+  fits = keeps.fits;
+  holders = keeps.holders;
+  hosts = keeps.hosts;
+  links = keeps.links;
+  groups = keeps.groups;
+}

@@ -1,5 +1,5 @@
 -- A text that was cut off where its name was full did not fit.
-use Rattle.std.proofs.Common.{◌≡◌, ℕ, suc, ◌+◌, ◌<◌, ◌≤◌, List, [], ◌∷◌, ◌++◌, length, take, Option, Some, None, slice_index_or, AllPairs, Result, Ok, Err, OnErr, sym, subst, arith, length-append}
+use Rattle.std.proofs.Common.{◌≡◌, ℕ, suc, ◌<◌, ◌≤◌, List, [], ◌∷◌, ◌++◌, length, take, Option, Some, None, slice_index_or, AllPairs, Result, Ok, Err, OnErr, sym, subst, arith, length-append}
 use Rattle.std.proofs.lemmas.List.{length-take-le}
 use Rattle.pl_shelf.specs.Capacity.{FitsBehind, IsFull}
 use Rattle.pl_shelf.specs.Held.{Held, unknown, absent, holds, IsCutOff, created, with_end}

@@ -7,7 +7,7 @@ use Rattle.pl_shelf.specs.Held.{Held}
 use Rattle.pl_output.specs.Printed.{IsPrinted, BreaksOff}
 use Rattle.pl_output.proofs.PrintedLaws.{printed_none, printed_then, broken_then, broken_first}
 
-encode_none : encode_lower [] ≡ []
+pub encode_none : encode_lower [] ≡ []
 unfolding encode_with
 encode_none = refl
 

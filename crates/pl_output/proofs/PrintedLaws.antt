@@ -17,6 +17,19 @@ printed_none old name piece = record {
   changes = record { named = sym (with_end-none (old name)); others = λ q other. refl };
 }
 
+-- the piece was sent, and is empty
+pub printed_sent : (old new : List ℕ → Held) (name piece : List ℕ) → Changes old new name (with_end (old name) piece) →
+    IsPrinted old new name piece [] []
+printed_sent old new name piece changes = record { sent = piece; whole = refl; changes = changes }
+
+-- nothing more was printed, and then a text is put behind it
+pub printed_put : (old new : List ℕ → Held) (name p q r x : List ℕ) → IsPrinted old new name p q [] → r ≡ q ++ x → IsPrinted old new name p r x
+printed_put old new name p q r x none put = record {
+  sent = none.sent;
+  whole = ap (λ t. t ++ x) (sym (append-nil p) ∙ none.whole) ∙ append_assoc none.sent q x ∙ ap (λ t. none.sent ++ t) (sym put);
+  changes = none.changes;
+}
+
 -- what is cut off behind a text that was sent
 cut_behind : (a b c : List ℕ → Held) (name sent text : List ℕ) → Changes a b name (with_end (a name) sent) →
     IsCutOff b c name (b name) text → IsCutOff a c name (a name) (sent ++ text)

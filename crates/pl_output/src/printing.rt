@@ -100,5 +100,5 @@ fn print_line<S: Shelf>(
     ensures full { OnErr result (IsFull (S.capacity shelf.new name.now) ((S.moment shelf.new).held name.now)) }
 {
     piece.print_words(shelf, name, words)?;
-    piece.print(shelf, name, b"\n")
+    piece.print_byte(shelf, name, b'\n')
 }

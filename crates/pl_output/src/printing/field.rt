@@ -49,7 +49,7 @@ impl Piece {
         match field {
             None => Ok(()),
             Some(field) => {
-                self.print(shelf, name, b" ")?;
+                self.print_byte(shelf, name, b' ')?;
                 self.print_field(shelf, name, field)
             }
         }
@@ -71,7 +71,7 @@ impl Piece {
     {
         match field {
             Field::Number(n) => self.print_number(shelf, name, n),
-            Field::Unknown => self.print(shelf, name, b"-"),
+            Field::Unknown => self.print_byte(shelf, name, b'-'),
             Field::Address(mac) => self.print_address(shelf, name, mac),
             Field::Switch(label) => self.print_label(shelf, name, label),
             Field::Text(text) => self.print(shelf, name, text.as_bytes()),

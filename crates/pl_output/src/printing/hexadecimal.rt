@@ -1,4 +1,5 @@
-ghost use Rattle.std.specs.Prelude.{◌≡◌, ◌≤◌, length, OnOk, OnErr};
+ghost use Rattle.std.specs.Prelude.{◌≡◌, ◌≤◌, [], ◌∷◌, length, OnOk, OnErr};
+ghost use Rattle.std.specs.List.{flat_map};
 ghost use Rattle.hex.specs.Hex.{encode_lower};
 ghost use Rattle.pl_shelf.specs.Capacity.{IsFull};
 ghost use Rattle.pl_shelf.specs.Faults.{CountsWrites};
@@ -10,7 +11,9 @@ use pl_frame::Mac;
 use pl_shelf::{SaveError, Shelf};
 
 /// How many bytes are turned into digits at a time.
-const CHUNK_LEN: usize = 256;
+const CHUNK_LEN: usize = 64;
+
+const DIGITS: [u8; 16] = *b"0123456789abcdef";
 
 impl Piece {
     /// Prints two lower-case hexadecimal digits for each byte.
@@ -43,7 +46,7 @@ impl Piece {
         name: &str,
         chunk: &[u8],
     ) -> Result<(), SaveError>
-        requires { length chunk.now ≤ 256 }
+        requires { length chunk.now ≤ 64 }
         ensures ok { OnOk result (IsPrinted (S.moment shelf.old).held (S.moment shelf.new).held name.now
             self.old self.new (encode_lower chunk.now)) }
         ensures err { OnErr result (BreaksOff (S.moment shelf.old).held (S.moment shelf.new).held name.now
@@ -52,10 +55,10 @@ impl Piece {
         ensures capacity { S.capacity shelf.new ≡ S.capacity shelf.old }
         ensures full { OnErr result (IsFull (S.capacity shelf.new name.now) ((S.moment shelf.new).held name.now)) }
     {
-        let mut digits = [0; 2 * CHUNK_LEN];
-        let digits = &mut digits[..2 * chunk.len()];
-        hex::encode_to_slice(chunk, digits).unwrap();
-        self.print(shelf, name, digits)
+        let mut pairs = [[0; 2]; CHUNK_LEN];
+        let pairs = &mut pairs[..chunk.len()];
+        put_pairs(pairs, chunk);
+        self.print(shelf, name, pairs.as_flattened())
     }
 
     /// Prints six two-digit lower-case hexadecimal numbers joined by colons.
@@ -91,11 +94,23 @@ fn address_text(mac: Mac) -> [u8; 17]
     ]
 }
 
+// Puts in the two digits of each byte.
+fn put_pairs(pairs: &mut [[u8; 2]], bytes: &[u8])
+    requires { length pairs.old ≡ length bytes.now }
+    ensures { flat_map (λ pair. pair) pairs.new ≡ encode_lower bytes.now }
+{
+    for i in 0..bytes.len() {
+        pairs[i] = digits(bytes[i]);
+    }
+}
+
 // The two digits of a byte.
 fn digits(byte: u8) -> [u8; 2]
-    ensures { result ≡ hex_pair byte }
+    ensures pair { result ≡ hex_pair byte }
+    ensures encoded { result ≡ encode_lower (byte ∷ []) }
 {
-    let mut digits = [0; 2];
-    hex::encode_to_slice(&[byte], &mut digits).unwrap();
-    digits
+    [
+        DIGITS[usize::from(byte / 16)],
+        DIGITS[usize::from(byte % 16)],
+    ]
 }

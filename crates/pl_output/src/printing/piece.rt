@@ -1,4 +1,4 @@
-ghost use Rattle.std.specs.Prelude.{◌≡◌, ◌+◌, ◌-◌, ◌≤◌, [], ◌++◌, length, IfOk, OnOk, OnErr};
+ghost use Rattle.std.specs.Prelude.{◌≡◌, ◌+◌, ◌<◌, ◌≤◌, [], ◌∷◌, ◌++◌, length, IfOk, OnOk, OnErr};
 ghost use Rattle.pl_shelf.specs.Held.{Changes, IsCutOff, with_end};
 ghost use Rattle.pl_shelf.specs.Capacity.{IsFull};
 ghost use Rattle.pl_shelf.specs.Faults.{CountsWrites};
@@ -12,20 +12,22 @@ use std::marker::Model;
 /// How many bytes go out at a time.
 const PIECE_LEN: usize = 65_536;
 
-/// The text that was printed last and is not on the shelf yet, in memory that was taken before.
+/// The text that was printed last and is not on the shelf yet, in memory that was taken before: the first
+/// `used` of its bytes.
 #[derive(Drop)]
 pub struct Piece {
     bytes: Vec<u8>,
+    used: usize,
 }
 
 impl Model for Piece {
-    ghost use Rattle.std.specs.Prelude.{◌≤◌, List, ℕ, length, vec_capacity};
+    ghost use Rattle.std.specs.Prelude.{◌≡◌, ◌≤◌, List, ℕ, length, take};
 
     ghost Value = { List ℕ };
 
-    ghost view = { λ piece. piece.bytes.items };
+    ghost view = { λ piece. take piece.used piece.bytes.items };
 
-    ghost invariant = { λ piece. (length piece.bytes.items ≤ 65536) × (65536 ≤ vec_capacity piece.bytes) };
+    ghost invariant = { λ piece. (length piece.bytes.items ≡ 65536) × (piece.used ≤ 65536) };
 }
 
 impl Piece {
@@ -33,14 +35,15 @@ impl Piece {
         ensures { IfOk result (λ piece. piece ≡ []) }
     {
         Ok(Piece {
-            bytes: Vec::with_capacity(alloc, PIECE_LEN)?,
+            bytes: vec![in alloc; 0; PIECE_LEN]?,
+            used: 0,
         })
     }
 
     pub fn clear(&mut self)
         ensures { self.new ≡ [] }
     {
-        self.bytes.clear();
+        self.used = 0;
     }
 
     /// Prints bytes behind what was printed before.
@@ -80,8 +83,51 @@ impl Piece {
         ensures capacity { S.capacity shelf.new ≡ S.capacity shelf.old }
         ensures full { OnErr result (IsFull (S.capacity shelf.new name.now) ((S.moment shelf.new).held name.now)) }
     {
-        append(shelf, name, &self.bytes)?;
+        append(shelf, name, &self.bytes[..self.used])?;
         self.clear();
+        Ok(())
+    }
+
+    /// Sends the piece, unless there is room for so many bytes behind it.
+    pub fn make_room<S: Shelf>(
+        &mut self,
+        shelf: &mut S,
+        name: &str,
+        len: usize,
+    ) -> Result<(), SaveError>
+        requires { len ≤ 65536 }
+        ensures room { OnOk result (length self.new + len ≤ 65536) }
+        ensures ok { OnOk result (IsPrinted (S.moment shelf.old).held (S.moment shelf.new).held name.now
+            self.old self.new []) }
+        ensures err { OnErr result (BreaksOff (S.moment shelf.old).held (S.moment shelf.new).held name.now
+            self.old []) }
+        ensures faults { CountsWrites result (S.moment shelf.old) (S.moment shelf.new) }
+        ensures capacity { S.capacity shelf.new ≡ S.capacity shelf.old }
+        ensures full { OnErr result (IsFull (S.capacity shelf.new name.now) ((S.moment shelf.new).held name.now)) }
+    {
+        if len <= self.room() {
+            return Ok(());
+        }
+        self.send(shelf, name)
+    }
+
+    /// Prints one byte.
+    pub fn print_byte<S: Shelf>(
+        &mut self,
+        shelf: &mut S,
+        name: &str,
+        byte: u8,
+    ) -> Result<(), SaveError>
+        ensures ok { OnOk result (IsPrinted (S.moment shelf.old).held (S.moment shelf.new).held name.now
+            self.old self.new (byte ∷ [])) }
+        ensures err { OnErr result (BreaksOff (S.moment shelf.old).held (S.moment shelf.new).held name.now
+            self.old (byte ∷ [])) }
+        ensures faults { CountsWrites result (S.moment shelf.old) (S.moment shelf.new) }
+        ensures capacity { S.capacity shelf.new ≡ S.capacity shelf.old }
+        ensures full { OnErr result (IsFull (S.capacity shelf.new name.now) ((S.moment shelf.new).held name.now)) }
+    {
+        self.make_room(shelf, name, 1)?;
+        self.put_byte(byte);
         Ok(())
     }
 
@@ -89,13 +135,25 @@ impl Piece {
     fn room(&self) -> usize
         ensures { result + length self.now ≡ 65536 }
     {
-        PIECE_LEN - self.bytes.len()
+        PIECE_LEN - self.used
     }
 
-    fn put(&mut self, bytes: &[u8])
+    /// Puts bytes behind what was printed before.
+    pub fn put(&mut self, bytes: &[u8])
         requires { length self.old + length bytes.now ≤ 65536 }
         ensures { self.new ≡ self.old ++ bytes.now }
     {
-        self.bytes.extend_from_slice(bytes).unwrap();
+        let end = self.used + bytes.len();
+        self.bytes[self.used..end].copy_from_slice(bytes);
+        self.used = end;
+    }
+
+    /// Puts one byte there.
+    pub fn put_byte(&mut self, byte: u8)
+        requires { length self.old < 65536 }
+        ensures { self.new ≡ self.old ++ byte ∷ [] }
+    {
+        self.bytes[self.used] = byte;
+        self.used += 1;
     }
 }

@@ -2,7 +2,7 @@
 use Rattle.std.proofs.Common.{◌≡◌, ℕ, List, [], codes, Option, Some, None, ap, ◌∙◌}
 use Rattle.std.specs.Option.{option_and_then}
 use Rattle.pl_inputs.specs.declared.words.Network.{Network}
-use Rattle.pl_inputs.specs.Words.{Given, Task, before, check_by, check_items, generate_by, generate_items, run_by, run_items, value_in, values_in}
+use Rattle.pl_inputs.specs.Words.{Given, Task, before, check_by, check_items, generate_by, generate_items, run_by, run_items, value_in, values_in, verify_by, verify_items}
 
 abbrev pub value : Option (List Given) → List ℕ → Option (List ℕ)
 value items name = option_and_then (value_in name) items
@@ -39,3 +39,13 @@ generate_is (Some items) k n f is_k is_n is_f =
     ap (λ x. generate_from x n f) is_k
     ∙ ap (λ x. generate_from (value_in (codes "--k") items) x f) is_n
     ∙ ap (λ x. generate_from (value_in (codes "--k") items) (value_in (codes "--number") items) x) is_f
+
+abbrev verify_from : Option (List ℕ) → Option (List ℕ) → Option Task
+verify_from topology journal = option_and_then verify_by (before topology (before journal (Some [])))
+
+pub verify_is : (items : Option (List Given)) (topology journal : Option (List ℕ)) → topology ≡ value items (codes "--topology") →
+    journal ≡ value items (codes "--journal") →
+    verify_from topology journal ≡ option_and_then verify_by (option_and_then (values_in verify_items) items)
+verify_is None topology journal is_topology is_journal = ap (λ x. verify_from x journal) is_topology
+verify_is (Some items) topology journal is_topology is_journal =
+    ap (λ x. verify_from x journal) is_topology ∙ ap (λ x. verify_from (value_in (codes "--topology") items) x) is_journal

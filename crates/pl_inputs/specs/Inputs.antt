@@ -16,12 +16,15 @@ use Rattle.pl_inputs.specs.declared.words.Network.{Network}
 use Rattle.pl_inputs.specs.declared.words.Network.TheVariants.{Bridges, Fabric}
 use Rattle.pl_inputs.specs.Words.{Asked}
 
--- the most bytes that are read of a topology or of a script, and of all captures together
+-- the most bytes that are read of a topology or of a script, of all captures together, and of a saved journal
 abbrev pub text_limit : ℕ
 text_limit = 16777216
 
 abbrev pub captures_limit : ℕ
 captures_limit = 67108864
+
+abbrev pub journal_limit : ℕ
+journal_limit = 1073741824
 
 -- A name was read whole, and is within its limit.
 pub record IsLoaded (held : List ℕ → Held) (name : List ℕ) (limit : ℕ) (file : List ℕ) : Type 0 where

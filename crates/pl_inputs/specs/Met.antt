@@ -7,7 +7,7 @@ use Rattle.pl_inputs.specs.declared.words.Files.{Files}
 use Rattle.pl_inputs.specs.declared.words.Task.{Task as Told}
 use Rattle.pl_inputs.specs.declared.words.Task.TheVariants as told
 use Rattle.pl_inputs.specs.declared.words.items.Item.{Item}
-use Rattle.pl_inputs.specs.Words.{Asked, Given, Task, Run, Check, Generate}
+use Rattle.pl_inputs.specs.Words.{Asked, Given, Task, Run, Check, Generate, Verify}
 
 abbrev pub texts : List (Bor (List ℕ)) → List (List ℕ)
 texts words = map (λ w. w.now) words
@@ -20,6 +20,7 @@ abbrev pub task : Told → Task
 task (told.Run files) = Run (asked files)
 task (told.Check topology) = Check topology.now
 task (told.Generate generation) = Generate generation
+task (told.Verify topology journal) = Verify topology.now journal.now
 
 abbrev pub given : Item → Given
 given item = (item.name.now, item.value.now)

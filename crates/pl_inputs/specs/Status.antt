@@ -10,7 +10,7 @@ use Rattle.pl_topology.specs.Errors.{error_text}
 use Rattle.pl_inputs.specs.declared.step.StepReason.{StepReason}
 use Rattle.pl_inputs.specs.declared.step.StepReason.TheVariants as step
 use Rattle.pl_inputs.specs.declared.status.Status.{Status}
-use Rattle.pl_inputs.specs.declared.status.Status.TheVariants.{Done, Usage, ReadFault, BadTopology, BadScript, BadCapture, WriteFault, ExpectFailed, Refused, TooLong, StepsSpent, JournalFull, OutOfMemory, BadSection}
+use Rattle.pl_inputs.specs.declared.status.Status.TheVariants.{Done, Usage, ReadFault, BadTopology, BadScript, BadCapture, WriteFault, ExpectFailed, Refused, TooLong, StepsSpent, JournalFull, OutOfMemory, NotLegal, BadJournal, BadSection}
 
 -- the number with which the program ends
 abbrev pub status_number : Status → ℕ
@@ -27,6 +27,8 @@ status_number (TooLong name) = 10
 status_number (StepsSpent line) = 11
 status_number (JournalFull line) = 11
 status_number OutOfMemory = 12
+status_number (NotLegal entry) = 13
+status_number (BadJournal line) = 14
 status_number (BadSection host e) = 15
 
 abbrev pub step_reason_text : StepReason → List ℕ
@@ -56,7 +58,7 @@ section_place_text (Some at) = codes " at byte " ++ decimal at
 section_place_text None = []
 
 abbrev pub usage_text : List ℕ
-usage_text = codes "usage: run --topology T --script S --captures DIR --out DIR, bridge --topology T --script S --captures DIR --out DIR, check --topology T, gen --k K --number N --frames F"
+usage_text = codes "usage: run --topology T --script S --captures DIR --out DIR, bridge --topology T --script S --captures DIR --out DIR, check --topology T, gen --k K --number N --frames F, verify --topology T --journal J"
 
 -- what befell, in words
 abbrev pub told : Status → List ℕ
@@ -74,6 +76,8 @@ told (TooLong name) = codes "too long: " ++ name
 told (StepsSpent line) = codes "steps spent, line " ++ decimal line
 told (JournalFull line) = codes "journal full, line " ++ decimal line
 told OutOfMemory = codes "out of memory"
+told (NotLegal entry) = codes "not legal, entry " ++ decimal entry
+told (BadJournal line) = codes "bad journal, line " ++ decimal line
 told (BadSection host e) =
     codes "bad capture of host number " ++ decimal host.0 ++ section_place_text (offset_of e) ++ codes ": " ++ section_reason_text e
 

@@ -2,7 +2,7 @@
 use Rattle.std.specs.Prelude.{◌≡◌, ℕ, List, [], ◌∷◌, ◌++◌, codes, Option, Some, None, refl}
 use Rattle.pl_script.specs.Numbers.{number_of}
 use Rattle.pl_inputs.specs.declared.words.Network.TheVariants.{Bridges, Fabric}
-use Rattle.pl_inputs.specs.Words.{Task, Run, Check, Generate, given_by, given_in, items_of, generation_of, task_of}
+use Rattle.pl_inputs.specs.Words.{Task, Run, Check, Generate, Verify, given_by, given_in, items_of, generation_of, task_of}
 
 abbrev asks : List (List ℕ) → Option Task
 asks words = task_of (codes "portland" ∷ words)
@@ -121,6 +121,16 @@ no_number = refl
 an_item_of_check : asks (codes "gen" ∷ codes "--k=4" ∷ codes "--number=7" ∷ codes "--frames=1" ∷ codes "--topology=t" ∷ []) ≡ None
 unfolding given_by given_in items_of task_of
 an_item_of_check = refl
+
+-- verify
+
+two_items : asks (codes "verify" ∷ codes "--journal" ∷ codes "j" ∷ codes "--topology=t" ∷ []) ≡ Some (Verify (codes "t") (codes "j"))
+unfolding given_by given_in items_of task_of
+two_items = refl
+
+no_journal : asks (codes "verify" ∷ codes "--topology=t" ∷ []) ≡ None
+unfolding given_by given_in items_of task_of
+no_journal = refl
 
 -- no command
 

@@ -17,11 +17,12 @@ pub record Asked : Type 0 where
   pub captures : List ℕ
   pub out : List ℕ
 
--- what the program is asked to do: to play a script, to read a topology, or to play what it makes itself
+-- what the program is asked to do: to play a script, to read a topology, to play what it makes itself, or to read a topology and a journal
 pub data Task : Type 0 where
   Run : Asked → Task
   Check : List ℕ → Task
   Generate : Generation → Task
+  Verify : List ℕ → List ℕ → Task
 
 -- the names of the items that each command takes
 abbrev pub run_items : List (List ℕ)
@@ -32,6 +33,9 @@ check_items = codes "--topology" ∷ []
 
 abbrev pub generate_items : List (List ℕ)
 generate_items = codes "--k" ∷ codes "--number" ∷ codes "--frames" ∷ []
+
+abbrev pub verify_items : List (List ℕ)
+verify_items = codes "--topology" ∷ codes "--journal" ∷ []
 
 -- an item: its name and its value
 abbrev pub Given : Type 0
@@ -130,6 +134,10 @@ abbrev pub generate_by : List (List ℕ) → Option Task
 generate_by (k ∷ number ∷ frames ∷ []) = option_map Generate (generation_of k number frames)
 generate_by _ = None
 
+abbrev pub verify_by : List (List ℕ) → Option Task
+verify_by (topology ∷ journal ∷ []) = Some (Verify topology journal)
+verify_by _ = None
+
 -- the program's name, then the command, then its items in any order
 unfoldable pub task_of : List (List ℕ) → Option Task
 task_of (program ∷ command ∷ words) =
@@ -137,5 +145,6 @@ task_of (program ∷ command ∷ words) =
     else if bytes_eq command (codes "bridge") then option_and_then (run_by Bridges) (values_by run_items words)
     else if bytes_eq command (codes "check") then option_and_then check_by (values_by check_items words)
     else if bytes_eq command (codes "gen") then option_and_then generate_by (values_by generate_items words)
+    else if bytes_eq command (codes "verify") then option_and_then verify_by (values_by verify_items words)
     else None
 task_of _ = None

@@ -5,7 +5,7 @@
 pub use capture::Capture;
 pub use fault::CaptureFault;
 pub use folders::in_folder;
-pub use loading::{Inputs, load_inputs, load_wiring};
+pub use loading::{Inputs, load_inputs, load_journal, load_wiring};
 pub use numbers::one_more;
 pub use records::{RecordedFrame, record_at, record_count};
 pub use status::Status;

@@ -13,7 +13,7 @@ pub use inputs::Inputs;
 use pl_shelf::Shelf;
 use std::alloc::Global;
 use texts::load_script;
-pub use texts::load_wiring;
+pub use texts::{load_journal, load_wiring};
 
 mod captures;
 mod inputs;

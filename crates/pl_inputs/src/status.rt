@@ -39,6 +39,10 @@ pub enum Status {
     /// The line with a step for which the journal has no room.
     JournalFull(u32),
     OutOfMemory,
+    /// The first entry of a journal that may not follow those before it, counted from 1.
+    NotLegal(u32),
+    /// The first line of a journal that is no entry's, counted from 1.
+    BadJournal(u32),
     /// The host, and why its pcapng file is refused.
     BadSection(HostNo, BlockError),
 }
@@ -61,6 +65,8 @@ impl Status {
             Status::TooLong(_) => 10,
             Status::StepsSpent(_) | Status::JournalFull(_) => 11,
             Status::OutOfMemory => 12,
+            Status::NotLegal(_) => 13,
+            Status::BadJournal(_) => 14,
             Status::BadSection(_, _) => 15,
         }
     }
@@ -95,7 +101,8 @@ impl fmt::Display for Status {
                     f,
                     "usage: run --topology T --script S --captures DIR --out DIR, \
                      bridge --topology T --script S --captures DIR --out DIR, \
-                     check --topology T, gen --k K --number N --frames F"
+                     check --topology T, gen --k K --number N --frames F, \
+                     verify --topology T --journal J"
                 )
             }
             Status::ReadFault(name) => write!(f, "cannot read {name}"),
@@ -115,6 +122,8 @@ impl fmt::Display for Status {
             Status::StepsSpent(line) => write!(f, "steps spent, line {line}"),
             Status::JournalFull(line) => write!(f, "journal full, line {line}"),
             Status::OutOfMemory => write!(f, "out of memory"),
+            Status::NotLegal(entry) => write!(f, "not legal, entry {entry}"),
+            Status::BadJournal(line) => write!(f, "bad journal, line {line}"),
             Status::BadSection(HostNo(host), e) => {
                 let place = SectionPlace(*e);
                 let reason = SectionReason(*e);

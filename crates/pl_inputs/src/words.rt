@@ -1,7 +1,7 @@
 //! The words of the command line.
 ghost use Rattle.std.specs.Prelude.{◌≡◌, ◌≤◌, List, option_map, IfSome};
 ghost use Rattle.std.specs.Option.{option_and_then};
-ghost use Rattle.pl_inputs.specs.Words.{arity_in, check_by, check_items, generate_by, generate_items, generation_of, number_in, run_by, run_items, task_of, values_by};
+ghost use Rattle.pl_inputs.specs.Words.{arity_in, check_by, check_items, generate_by, generate_items, generation_of, number_in, run_by, run_items, task_of, values_by, verify_by, verify_items};
 ghost use Rattle.pl_wiring.specs.Labels.{IsArity};
 ghost use Rattle.pl_inputs.specs.Met.{MayBeMade, IsWithinLimits, task, texts};
 
@@ -19,6 +19,8 @@ pub enum Task<'a> {
     Check { topology: &'a str },
     /// To make a topology, a script and captures, and to play them.
     Generate(Generation),
+    /// To read a topology and a saved journal, and to tell whether the journal is legal.
+    Verify { topology: &'a str, journal: &'a str },
 }
 
 /// What a script is played on.
@@ -57,6 +59,8 @@ const CHECK_ITEMS: [&str; 1] = ["--topology"];
 
 const GENERATE_ITEMS: [&str; 3] = ["--k", "--number", "--frames"];
 
+const VERIFY_ITEMS: [&str; 2] = ["--topology", "--journal"];
+
 /// What the words ask for, of which the first is the program's name and the second the command. None
 /// exactly where the words are no command.
 #[tactic(auto, unfolding(crate::specs::Words::task_of))]
@@ -74,6 +78,8 @@ pub fn task_of<'a>(words: &[&'a str]) -> Option<Task<'a>>
         check(words)
     } else if *command == "gen" {
         generate(words)
+    } else if *command == "verify" {
+        verify(words)
     } else {
         None
     }
@@ -120,6 +126,19 @@ fn generate<'a>(words: &[&'a str]) -> Option<Task<'a>>
     let number = items.value("--number")?;
     let frames = items.value("--frames")?;
     Some(Task::Generate(Generation::of(k, number, frames)?))
+}
+
+fn verify<'a>(words: &[&'a str]) -> Option<Task<'a>>
+    ensures exact { option_map task result ≡ option_and_then verify_by (values_by verify_items (texts words.now)) }
+    ensures within { IfSome result IsWithinLimits }
+{
+    let items = Items {
+        names: &VERIFY_ITEMS,
+        words,
+    };
+    let topology = items.value("--topology")?;
+    let journal = items.value("--journal")?;
+    Some(Task::Verify { topology, journal })
 }
 
 impl Generation {

@@ -2,20 +2,22 @@ ghost use Rattle.std.specs.Prelude.{◌≡◌, IfOk, IfErr, Ok};
 ghost use Rattle.pl_shelf.specs.Held.{Same};
 ghost use Rattle.pl_topology.specs.Meaning.{topology_of};
 ghost use Rattle.pl_script.specs.Reading.{LineGives};
-ghost use Rattle.pl_inputs.specs.Inputs.{HasLines, HasPlan, script_for};
+ghost use Rattle.pl_inputs.specs.Inputs.{HasLines, HasPlan, IsLoaded, journal_limit, script_for};
 ghost use Rattle.pl_inputs.specs.Refusals.{IsRefusedPlan, IsRefusedScript};
-ghost use Rattle.pl_inputs.specs.Loads.{IsUnplanned, IsUnpromised, IsUnscripted, Reads};
+ghost use Rattle.pl_inputs.specs.Loads.{IsUnloaded, IsUnplanned, IsUnpromised, IsUnscripted, Reads};
 
 use crate::loading::named::load_named;
 use crate::status::Status;
 use crate::words::Network;
 use pl_script::{Script, ScriptError, read_for_bridges};
-use pl_shelf::Shelf;
+use pl_shelf::{Bytes, Shelf};
 use pl_topology::TopologyError;
 use pl_wiring::{Name, Wiring};
 use std::alloc::Global;
 
 const TEXT_LIMIT: u64 = 16 << 20;
+
+const JOURNAL_LIMIT: u64 = 1 << 30;
 
 /// Reads the topology's file of this name, at most 16 MiB. Nothing that is held changes.
 ///
@@ -32,6 +34,22 @@ pub fn load_wiring<S: Shelf>(alloc: Global, shelf: &mut S, name: &str) -> Result
     let name = Name::copy(alloc, name)?;
     let file = load_named(alloc, shelf, name, TEXT_LIMIT)?;
     wiring_in(alloc, file.bytes())
+}
+
+/// Reads the saved journal's file of this name, at most 1 GiB. Nothing that is held changes.
+///
+/// `ReadFault` and `TooLong` name the file.
+pub fn load_journal<S: Shelf>(alloc: Global, shelf: &mut S, name: &str) -> Result<Bytes, Status>
+    ensures ok { IfOk result (λ file. IsLoaded (S.moment shelf.old).held name.now journal_limit file) }
+    ensures err { IfErr result (λ e. IsUnloaded (S.moment shelf.old).held name.now journal_limit e) }
+    ensures same { Same (S.moment shelf.old).held (S.moment shelf.new).held }
+    ensures reads { Reads result (S.moment shelf.old).read_faults (S.moment shelf.new).read_faults }
+    ensures writes { (S.moment shelf.new).write_faults ≡ (S.moment shelf.old).write_faults }
+    ensures capacity { S.capacity shelf.new ≡ S.capacity shelf.old }
+    ensures unpromised { IfErr result (λ e. IsUnpromised (S.capacity shelf.new) (S.moment shelf.new).held e) }
+{
+    let name = Name::copy(alloc, name)?;
+    load_named(alloc, shelf, name, JOURNAL_LIMIT)
 }
 
 /// The lines of a script's file, for the network that it is played on.

@@ -18,6 +18,8 @@ module _ (leads : Course) where
   unplayed_names_none i (status.WriteFault name) u = no_stop leads i (status.WriteFault name) refl u
   unplayed_names_none i status.Done u = tt
   unplayed_names_none i status.Usage u = tt
+  unplayed_names_none i (status.NotLegal entry) u = tt
+  unplayed_names_none i (status.BadJournal line) u = tt
   unplayed_names_none i (status.TooLong name) u = tt
   unplayed_names_none i (status.BadTopology reason) u = tt
   unplayed_names_none i (status.BadScript line reason) u = tt

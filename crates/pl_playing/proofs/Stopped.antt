@@ -43,6 +43,8 @@ module _ (play : Play) where
   unplayed_comes old new stays i texts (status.WriteFault name) u = absurd (no_stop play.leads i (status.WriteFault name) refl u)
   unplayed_comes old new stays i texts status.OutOfMemory u = stays
   unplayed_comes old new stays i texts status.Usage u = (u, stays)
+  unplayed_comes old new stays i texts (status.NotLegal entry) u = (u, stays)
+  unplayed_comes old new stays i texts (status.BadJournal line) u = (u, stays)
   unplayed_comes old new stays i texts (status.ReadFault name) u = (u, stays)
   unplayed_comes old new stays i texts (status.TooLong name) u = (u, stays)
   unplayed_comes old new stays i texts (status.BadTopology reason) u = (u, stays)

@@ -86,6 +86,8 @@ answers_by_playing old new asked (status.BadSection host e) a i is told none =
     absurd (no_bad_capture old.held asked i told is host.0 (OfSections e) (subst (λ (p : Plan). IsRefusedCapture old.held asked.captures p.hosts host.0 (OfSections e)) same a.0.2))
 answers_by_playing old new asked status.OutOfMemory a i is told none = inr refl
 answers_by_playing old new asked status.Usage a i is told none = absurd a.0
+answers_by_playing old new asked (status.NotLegal entry) a i is told none = absurd a.0
+answers_by_playing old new asked (status.BadJournal line) a i is told none = absurd a.0
 
 -- one script comes to one end
 abbrev pub OneEnd : Type 0

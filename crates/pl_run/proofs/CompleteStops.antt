@@ -103,6 +103,8 @@ answers_bad_capture old new asked (status.BadSection m f) a plan n e told texts 
     (next old.held asked.captures plan.hosts n.0 told.captures))
 answers_bad_capture old new asked status.OutOfMemory a plan n e told texts r none = inr refl
 answers_bad_capture old new asked status.Usage a plan n e told texts r none = absurd a.0
+answers_bad_capture old new asked (status.NotLegal entry) a plan n e told texts r none = absurd a.0
+answers_bad_capture old new asked (status.BadJournal line) a plan n e told texts r none = absurd a.0
 
 -- one capture is the first that is too long
 same_long : (held : List ℕ → Held) (folder : List ℕ) (hosts : List Host) (name other : List ℕ) (m : IsTooMuch held folder hosts name) → IsTooMuch held folder hosts other →
@@ -148,6 +150,8 @@ answers_long_capture old new asked (status.BadSection n e) a plan name texts m t
     (refused_of old.held asked plan a.0.0 n.0 (OfSections e) told.topology texts.topology a.0.1.topology a.0.2) m (next old.held asked.captures plan.hosts m.n told.captures))
 answers_long_capture old new asked status.OutOfMemory a plan name texts m told none = inr refl
 answers_long_capture old new asked status.Usage a plan name texts m told none = absurd a.0
+answers_long_capture old new asked (status.NotLegal entry) a plan name texts m told none = absurd a.0
+answers_long_capture old new asked (status.BadJournal line) a plan name texts m told none = absurd a.0
 
 -- all of it
 pub is_complete : OneEnd → (old new : ShelfMoment) (asked : Asked) (e : Status) → Answers old new asked e → IsComplete old new asked e

@@ -55,18 +55,18 @@ off_since old mid new same savings name off = record {
   others = others_since old mid new same (off.before ++ off.broken ∷ []) off.others;
 }
 
-untouched_since : (old mid new : ShelfMoment) → IsSameMoment old mid → IsUntouched mid new → IsUntouched old new
+pub untouched_since : (old mid new : ShelfMoment) → IsSameMoment old mid → IsUntouched mid new → IsUntouched old new
 untouched_since old mid new is then =
     record { same = λ q. then.same q ∙ is.same q; reads = then.reads ∙ is.reads; writes = then.writes ∙ is.writes }
 
-saves_since : (old mid new : ShelfMoment) → IsSameMoment old mid → (savings : List Saving) → Saves mid new savings → Saves old new savings
+pub saves_since : (old mid new : ShelfMoment) → IsSameMoment old mid → (savings : List Saving) → Saves mid new savings → Saves old new savings
 saves_since old mid new is savings s = record {
   saved = saved_since old.held mid.held new.held is.same savings s.saved;
   reads = s.reads ∙ is.reads;
   writes = s.writes ∙ is.writes;
 }
 
-fails_since : (old mid new : ShelfMoment) → IsSameMoment old mid → (savings : List Saving) (name : List ℕ) → SavingFails mid new savings name → SavingFails old new savings name
+pub fails_since : (old mid new : ShelfMoment) → IsSameMoment old mid → (savings : List Saving) (name : List ℕ) → SavingFails mid new savings name → SavingFails old new savings name
 fails_since old mid new is savings name s = record {
   saved = off_since old.held mid.held new.held is.same savings name s.saved;
   reads = s.reads ∙ is.reads;
@@ -80,6 +80,8 @@ comes_since network old mid new is i texts status.Done c = (c.0, saves_since old
 comes_since network old mid new is i texts (status.WriteFault name) c = (c.0, fails_since old mid new is (texts c.0) name c.1)
 comes_since network old mid new is i texts status.OutOfMemory c = untouched_since old mid new is c
 comes_since network old mid new is i texts status.Usage c = (c.0, untouched_since old mid new is c.1)
+comes_since network old mid new is i texts (status.NotLegal entry) c = (c.0, untouched_since old mid new is c.1)
+comes_since network old mid new is i texts (status.BadJournal line) c = (c.0, untouched_since old mid new is c.1)
 comes_since network old mid new is i texts (status.ReadFault name) c = (c.0, untouched_since old mid new is c.1)
 comes_since network old mid new is i texts (status.TooLong name) c = (c.0, untouched_since old mid new is c.1)
 comes_since network old mid new is i texts (status.BadTopology reason) c = (c.0, untouched_since old mid new is c.1)
@@ -101,6 +103,8 @@ run_answers old new asked i read (status.StepsSpent line) c = (i, read, c)
 run_answers old new asked i read (status.JournalFull line) c = (i, read, c)
 run_answers old new asked i read status.OutOfMemory c = (tt, c)
 run_answers old new asked i read status.Usage c = absurd (no_stop (play_on asked.network).leads i status.Usage refl c.0)
+run_answers old new asked i read (status.NotLegal entry) c = absurd (no_stop (play_on asked.network).leads i (status.NotLegal entry) refl c.0)
+run_answers old new asked i read (status.BadJournal line) c = absurd (no_stop (play_on asked.network).leads i (status.BadJournal line) refl c.0)
 run_answers old new asked i read (status.ReadFault name) c = absurd (no_stop (play_on asked.network).leads i (status.ReadFault name) refl c.0)
 run_answers old new asked i read (status.TooLong name) c = absurd (no_stop (play_on asked.network).leads i (status.TooLong name) refl c.0)
 run_answers old new asked i read (status.BadTopology reason) c = absurd (no_stop (play_on asked.network).leads i (status.BadTopology reason) refl c.0)
@@ -121,6 +125,8 @@ unread_answers old new asked same writes (status.BadSection host e) u reads = (u
 unread_answers old new asked same writes status.OutOfMemory u reads = (u, record { same = same; reads = reads; writes = writes })
 unread_answers old new asked same writes status.Done u reads = absurd u
 unread_answers old new asked same writes status.Usage u reads = absurd u
+unread_answers old new asked same writes (status.NotLegal entry) u reads = absurd u
+unread_answers old new asked same writes (status.BadJournal line) u reads = absurd u
 unread_answers old new asked same writes (status.WriteFault name) u reads = absurd u
 unread_answers old new asked same writes (status.ExpectFailed line) u reads = absurd u
 unread_answers old new asked same writes (status.Refused line reason) u reads = absurd u
@@ -134,6 +140,8 @@ check_answers old mid new topology plan has is status.Done c = (plan, has, saves
 check_answers old mid new topology plan has is (status.WriteFault name) c = (plan, has, fails_since old mid new is (line_of plan) name c)
 check_answers old mid new topology plan has is status.OutOfMemory c = (tt, untouched_since old mid new is c)
 check_answers old mid new topology plan has is status.Usage c = absurd c
+check_answers old mid new topology plan has is (status.NotLegal entry) c = absurd c
+check_answers old mid new topology plan has is (status.BadJournal line) c = absurd c
 check_answers old mid new topology plan has is (status.ReadFault name) c = absurd c
 check_answers old mid new topology plan has is (status.TooLong name) c = absurd c
 check_answers old mid new topology plan has is (status.BadTopology reason) c = absurd c
@@ -158,6 +166,8 @@ unplanned_answers old new topology same writes (status.BadCapture host e at) u r
 unplanned_answers old new topology same writes (status.BadSection host e) u reads = absurd u
 unplanned_answers old new topology same writes status.Done u reads = absurd u
 unplanned_answers old new topology same writes status.Usage u reads = absurd u
+unplanned_answers old new topology same writes (status.NotLegal entry) u reads = absurd u
+unplanned_answers old new topology same writes (status.BadJournal line) u reads = absurd u
 unplanned_answers old new topology same writes (status.WriteFault name) u reads = absurd u
 unplanned_answers old new topology same writes (status.ExpectFailed line) u reads = absurd u
 unplanned_answers old new topology same writes (status.Refused line reason) u reads = absurd u
@@ -175,6 +185,8 @@ generated_answers old new g i read (status.StepsSpent line) c = (read.0, read.1,
 generated_answers old new g i read (status.JournalFull line) c = (read.0, read.1, (i, read.2, c))
 generated_answers old new g i read status.OutOfMemory c = c
 generated_answers old new g i read status.Usage c = absurd (no_stop (play_on Fabric).leads i status.Usage refl c.0)
+generated_answers old new g i read (status.NotLegal entry) c = absurd (no_stop (play_on Fabric).leads i (status.NotLegal entry) refl c.0)
+generated_answers old new g i read (status.BadJournal line) c = absurd (no_stop (play_on Fabric).leads i (status.BadJournal line) refl c.0)
 generated_answers old new g i read (status.ReadFault name) c = absurd (no_stop (play_on Fabric).leads i (status.ReadFault name) refl c.0)
 generated_answers old new g i read (status.TooLong name) c = absurd (no_stop (play_on Fabric).leads i (status.TooLong name) refl c.0)
 generated_answers old new g i read (status.BadTopology reason) c = absurd (no_stop (play_on Fabric).leads i (status.BadTopology reason) refl c.0)
@@ -192,6 +204,8 @@ ungenerated_answers old new stays g (status.BadScript line reason) u = (u.0, u.1
 ungenerated_answers old new stays g (status.BadCapture host e at) u = (u.0, u.1, (u.2, stays))
 ungenerated_answers old new stays g (status.BadSection host e) u = (u.0, u.1, (u.2, stays))
 ungenerated_answers old new stays g status.Usage u = absurd u.2
+ungenerated_answers old new stays g (status.NotLegal entry) u = absurd u.2
+ungenerated_answers old new stays g (status.BadJournal line) u = absurd u.2
 ungenerated_answers old new stays g status.Done u = absurd u.2
 ungenerated_answers old new stays g (status.WriteFault name) u = absurd u.2
 ungenerated_answers old new stays g (status.ExpectFailed line) u = absurd u.2
@@ -210,6 +224,8 @@ not_generated g held are (status.BadScript line reason) u = (held, are, u)
 not_generated g held are (status.BadCapture host e at) u = (held, are, u)
 not_generated g held are (status.BadSection host e) u = (held, are, u)
 not_generated g held are status.Usage u = absurd u
+not_generated g held are (status.NotLegal entry) u = absurd u
+not_generated g held are (status.BadJournal line) u = absurd u
 not_generated g held are status.Done u = absurd u
 not_generated g held are (status.WriteFault name) u = absurd u
 not_generated g held are (status.ExpectFailed line) u = absurd u

@@ -1,19 +1,22 @@
 -- A count of failed calls that rose is told by the answer.
-use Rattle.std.proofs.Common.{◌≡◌, ℕ, ◌<◌, List, refl, arith}
+use Rattle.std.proofs.Common.{◌≡◌, ℕ, ◌<◌, List, refl, inl, inr, arith}
 use Rattle.pl_shelf.specs.Held.{Held, ShelfMoment}
+use Rattle.pl_wiring.specs.Plan.{Plan}
 use Rattle.pl_inputs.specs.declared.status.Status.{Status}
-use Rattle.pl_inputs.specs.Inputs.{Inputs}
+use Rattle.pl_inputs.specs.Inputs.{Inputs, journal_limit}
+use Rattle.pl_inputs.specs.Loads.{IsUnloaded, IsUnplanned}
 use Rattle.pl_inputs.specs.declared.words.Network.{Network}
 use Rattle.pl_inputs.specs.declared.words.Network.TheVariants.{Fabric}
-use Rattle.pl_inputs.specs.Words.{Asked, Check, Generate, Run, Task}
+use Rattle.pl_inputs.specs.Words.{Asked, Check, Generate, Run, Task, Verify}
 use Rattle.pl_output.specs.Saved.{Saving}
 use Rattle.pl_inputs.specs.declared.status.Status.TheVariants as status
-use Rattle.pl_playing.specs.Outcomes.{IsUntouched, ReadFails, Saves, SavingFails}
+use Rattle.pl_playing.specs.Outcomes.{EndsSaving, IsUntouched, ReadFails, Saves, SavingFails}
 use Rattle.pl_run.specs.Answers.{Answers, IsRun}
 use Rattle.pl_run.specs.Checks.{AnswersCheck, line_of}
 use Rattle.pl_run.specs.Faults.{TellsFaults}
 use Rattle.pl_run.specs.Generated.{AnswersGenerated, AnswersOver, IsGeneratedRun}
 use Rattle.pl_run.specs.Tasks.{AnswersTask}
+use Rattle.pl_run.specs.Verified.{AnswersJournal, AnswersVerify, IsNotRead, told_of}
 use Rattle.pl_run.specs.Fabric.{Comes, IsPlayed, printed_of, texts_of}
 
 -- a count that stands did not rise
@@ -49,6 +52,8 @@ comes_tells network old new i texts status.Done c = saves_tells old new (texts c
 comes_tells network old new i texts (status.WriteFault name) c = write_tells old new (texts c.0) name c.1
 comes_tells network old new i texts status.OutOfMemory c = untouched_tells old new status.OutOfMemory c
 comes_tells network old new i texts status.Usage c = untouched_tells old new status.Usage c.1
+comes_tells network old new i texts (status.NotLegal entry) c = untouched_tells old new (status.NotLegal entry) c.1
+comes_tells network old new i texts (status.BadJournal line) c = untouched_tells old new (status.BadJournal line) c.1
 comes_tells network old new i texts (status.ReadFault name) c = untouched_tells old new (status.ReadFault name) c.1
 comes_tells network old new i texts (status.TooLong name) c = untouched_tells old new (status.TooLong name) c.1
 comes_tells network old new i texts (status.BadTopology reason) c = untouched_tells old new (status.BadTopology reason) c.1
@@ -73,6 +78,8 @@ answers_tells old new asked (status.JournalFull line) a = run_tells old new aske
 answers_tells old new asked (status.ReadFault name) a = read_tells old new name a.1
 answers_tells old new asked status.OutOfMemory a = untouched_tells old new status.OutOfMemory a.1
 answers_tells old new asked status.Usage a = untouched_tells old new status.Usage a.1
+answers_tells old new asked (status.NotLegal entry) a = untouched_tells old new (status.NotLegal entry) a.1
+answers_tells old new asked (status.BadJournal line) a = untouched_tells old new (status.BadJournal line) a.1
 answers_tells old new asked (status.TooLong name) a = untouched_tells old new (status.TooLong name) a.1
 answers_tells old new asked (status.BadTopology reason) a = untouched_tells old new (status.BadTopology reason) a.1
 answers_tells old new asked (status.BadScript line reason) a = untouched_tells old new (status.BadScript line reason) a.1
@@ -85,6 +92,8 @@ check_tells old new topology (status.WriteFault name) a = write_tells old new (l
 check_tells old new topology (status.ReadFault name) a = read_tells old new name a.1
 check_tells old new topology status.OutOfMemory a = untouched_tells old new status.OutOfMemory a.1
 check_tells old new topology status.Usage a = untouched_tells old new status.Usage a.1
+check_tells old new topology (status.NotLegal entry) a = untouched_tells old new (status.NotLegal entry) a.1
+check_tells old new topology (status.BadJournal line) a = untouched_tells old new (status.BadJournal line) a.1
 check_tells old new topology (status.TooLong name) a = untouched_tells old new (status.TooLong name) a.1
 check_tells old new topology (status.BadTopology reason) a = untouched_tells old new (status.BadTopology reason) a.1
 check_tells old new topology (status.BadScript line reason) a = untouched_tells old new (status.BadScript line reason) a.1
@@ -109,6 +118,8 @@ over_tells old new held (status.JournalFull line) a = made_tells old new held (s
 over_tells old new held (status.ReadFault name) a = absurd a
 over_tells old new held status.OutOfMemory a = untouched_tells old new status.OutOfMemory a.1
 over_tells old new held status.Usage a = untouched_tells old new status.Usage a.1
+over_tells old new held (status.NotLegal entry) a = untouched_tells old new (status.NotLegal entry) a.1
+over_tells old new held (status.BadJournal line) a = untouched_tells old new (status.BadJournal line) a.1
 over_tells old new held (status.TooLong name) a = untouched_tells old new (status.TooLong name) a.1
 over_tells old new held (status.BadTopology reason) a = untouched_tells old new (status.BadTopology reason) a.1
 over_tells old new held (status.BadScript line reason) a = untouched_tells old new (status.BadScript line reason) a.1
@@ -125,13 +136,62 @@ generated_tells old new k number frames (status.StepsSpent line) a = over_tells 
 generated_tells old new k number frames (status.JournalFull line) a = over_tells old new a.0 (status.JournalFull line) a.2
 generated_tells old new k number frames (status.ReadFault name) a = absurd a.2
 generated_tells old new k number frames status.Usage a = over_tells old new a.0 status.Usage a.2
+generated_tells old new k number frames (status.NotLegal entry) a = over_tells old new a.0 (status.NotLegal entry) a.2
+generated_tells old new k number frames (status.BadJournal line) a = over_tells old new a.0 (status.BadJournal line) a.2
 generated_tells old new k number frames (status.TooLong name) a = over_tells old new a.0 (status.TooLong name) a.2
 generated_tells old new k number frames (status.BadTopology reason) a = over_tells old new a.0 (status.BadTopology reason) a.2
 generated_tells old new k number frames (status.BadScript line reason) a = over_tells old new a.0 (status.BadScript line reason) a.2
 generated_tells old new k number frames (status.BadCapture host e at) a = over_tells old new a.0 (status.BadCapture host e at) a.2
 generated_tells old new k number frames (status.BadSection host e) a = over_tells old new a.0 (status.BadSection host e) a.2
 
+-- a journal that is checked
+saving_tells : (old new : ShelfMoment) (savings : List Saving) (e : Status) → EndsSaving old new savings e → TellsFaults old new e
+saving_tells old new savings status.Done c = saves_tells old new savings status.Done c
+saving_tells old new savings (status.WriteFault name) c = write_tells old new savings name c
+saving_tells old new savings status.OutOfMemory c = untouched_tells old new status.OutOfMemory c
+saving_tells old new savings status.Usage c = absurd c
+saving_tells old new savings (status.ReadFault name) c = absurd c
+saving_tells old new savings (status.BadTopology reason) c = absurd c
+saving_tells old new savings (status.BadScript line reason) c = absurd c
+saving_tells old new savings (status.BadCapture host e at) c = absurd c
+saving_tells old new savings (status.ExpectFailed line) c = absurd c
+saving_tells old new savings (status.Refused line reason) c = absurd c
+saving_tells old new savings (status.TooLong name) c = absurd c
+saving_tells old new savings (status.StepsSpent line) c = absurd c
+saving_tells old new savings (status.JournalFull line) c = absurd c
+saving_tells old new savings (status.NotLegal entry) c = absurd c
+saving_tells old new savings (status.BadJournal line) c = absurd c
+saving_tells old new savings (status.BadSection host e) c = absurd c
+
+missed_tells : (why : Status → Type 0) (old new : ShelfMoment) (e : Status) → IsNotRead why old new e → TellsFaults old new e
+missed_tells why old new (status.ReadFault name) a = read_tells old new name a.1
+missed_tells why old new status.Done a = untouched_tells old new status.Done a.1
+missed_tells why old new status.Usage a = untouched_tells old new status.Usage a.1
+missed_tells why old new (status.BadTopology reason) a = untouched_tells old new (status.BadTopology reason) a.1
+missed_tells why old new (status.BadScript line reason) a = untouched_tells old new (status.BadScript line reason) a.1
+missed_tells why old new (status.BadCapture host e at) a = untouched_tells old new (status.BadCapture host e at) a.1
+missed_tells why old new (status.WriteFault name) a = untouched_tells old new (status.WriteFault name) a.1
+missed_tells why old new (status.ExpectFailed line) a = untouched_tells old new (status.ExpectFailed line) a.1
+missed_tells why old new (status.Refused line reason) a = untouched_tells old new (status.Refused line reason) a.1
+missed_tells why old new (status.TooLong name) a = untouched_tells old new (status.TooLong name) a.1
+missed_tells why old new (status.StepsSpent line) a = untouched_tells old new (status.StepsSpent line) a.1
+missed_tells why old new (status.JournalFull line) a = untouched_tells old new (status.JournalFull line) a.1
+missed_tells why old new status.OutOfMemory a = untouched_tells old new status.OutOfMemory a.1
+missed_tells why old new (status.NotLegal entry) a = untouched_tells old new (status.NotLegal entry) a.1
+missed_tells why old new (status.BadJournal line) a = untouched_tells old new (status.BadJournal line) a.1
+missed_tells why old new (status.BadSection host e) a = untouched_tells old new (status.BadSection host e) a.1
+
+journal_tells : (old new : ShelfMoment) (plan : Plan) (journal : List ℕ) (e : Status) → AnswersJournal old new plan journal e → TellsFaults old new e
+journal_tells old new plan journal e (inl a) = missed_tells (IsUnloaded old.held journal journal_limit) old new e a
+journal_tells old new plan journal e (inr (text, loaded, inl a)) = saving_tells old new (told_of a.0) e a.2
+journal_tells old new plan journal e (inr (text, loaded, inr a)) = untouched_tells old new e a.1
+
+verify_tells : (old new : ShelfMoment) (topology journal : List ℕ) (e : Status) → AnswersVerify old new topology journal e → TellsFaults old new e
+verify_tells old new topology journal e (inl a) = missed_tells (IsUnplanned old.held topology) old new e a
+verify_tells old new topology journal e (inr a) = journal_tells old new a.0 journal e a.3
+
 pub task_tells : (old new : ShelfMoment) (task : Task) (e : Status) → AnswersTask old new task e → TellsFaults old new e
 task_tells old new (Run asked) e a = answers_tells old new asked e a
 task_tells old new (Check topology) e a = check_tells old new topology e a
 task_tells old new (Generate g) e a = generated_tells old new g.k g.number g.frames e a
+task_tells old new (Verify topology journal) e a = verify_tells old new topology journal e a

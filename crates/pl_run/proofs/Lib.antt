@@ -4,6 +4,9 @@ pub mod CompleteCaptures
 pub mod Stages
 pub mod CompleteAnswers
 pub mod CompleteStops
+pub mod CompleteVerify
 pub mod FaultAnswers
 pub mod Preparing
+pub mod Verifying
+pub mod Asking
 pub mod OnBridges

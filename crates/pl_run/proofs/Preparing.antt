@@ -19,7 +19,7 @@ use Rattle.pl_run.specs.Prepared.{IsPreparedRun}
 use Rattle.pl_run.specs.Fabric.{HasRoomFor, IsPlayed}
 
 -- what could be read at first can be read still
-readable_since : (before after : List ℕ → Option ℕ) (old new : List ℕ → Held) (name : List ℕ) → after ≡ before → Same old new →
+pub readable_since : (before after : List ℕ → Option ℕ) (old new : List ℕ → Held) (name : List ℕ) → after ≡ before → Same old new →
     IsReadable (before name) (old name) → IsReadable (after name) (new name)
 readable_since before after old new name kept same is =
     subst (λ h. IsReadable (after name) h) (sym (same name)) (subst (λ k. IsReadable (k name) (old name)) (sym kept) is)
@@ -48,6 +48,8 @@ unread_names_none before after old new asked kept same is (status.ReadFault name
 unread_names_none before after old new asked kept same is (status.WriteFault name) u none = absurd u
 unread_names_none before after old new asked kept same is status.Done u none = tt
 unread_names_none before after old new asked kept same is status.Usage u none = tt
+unread_names_none before after old new asked kept same is (status.NotLegal entry) u none = tt
+unread_names_none before after old new asked kept same is (status.BadJournal line) u none = tt
 unread_names_none before after old new asked kept same is (status.TooLong name) u none = tt
 unread_names_none before after old new asked kept same is (status.BadTopology reason) u none = tt
 unread_names_none before after old new asked kept same is (status.BadScript line reason) u none = tt
@@ -67,6 +69,8 @@ unplanned_names_none before after old new topology kept same is (status.ReadFaul
 unplanned_names_none before after old new topology kept same is (status.WriteFault name) u none = absurd u
 unplanned_names_none before after old new topology kept same is status.Done u none = tt
 unplanned_names_none before after old new topology kept same is status.Usage u none = tt
+unplanned_names_none before after old new topology kept same is (status.NotLegal entry) u none = tt
+unplanned_names_none before after old new topology kept same is (status.BadJournal line) u none = tt
 unplanned_names_none before after old new topology kept same is (status.TooLong name) u none = tt
 unplanned_names_none before after old new topology kept same is (status.BadTopology reason) u none = tt
 unplanned_names_none before after old new topology kept same is (status.BadScript line reason) u none = tt
@@ -84,6 +88,8 @@ ungenerated_names_none g (status.ReadFault name) u = u
 ungenerated_names_none g (status.WriteFault name) u = u.2
 ungenerated_names_none g status.Done u = tt
 ungenerated_names_none g status.Usage u = tt
+ungenerated_names_none g (status.NotLegal entry) u = tt
+ungenerated_names_none g (status.BadJournal line) u = tt
 ungenerated_names_none g (status.TooLong name) u = tt
 ungenerated_names_none g (status.BadTopology reason) u = tt
 ungenerated_names_none g (status.BadScript line reason) u = tt

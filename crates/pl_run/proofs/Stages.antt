@@ -119,6 +119,8 @@ script_stage old new asked (status.BadCapture host e at) a = inl (a.0.0, a.0.1)
 script_stage old new asked (status.BadSection host e) a = inl (a.0.0, a.0.1)
 script_stage old new asked status.OutOfMemory a = inr (inr (inr (inr (inr (inr refl)))))
 script_stage old new asked status.Usage a = absurd a.0
+script_stage old new asked (status.NotLegal entry) a = absurd a.0
+script_stage old new asked (status.BadJournal line) a = absurd a.0
 
 check_stage : (old new : ShelfMoment) (topology : List ℕ) (e : Status) → AnswersCheck old new topology e → TopologyStage old new topology e
 check_stage old new topology status.Done a = inl (a.0, a.1)
@@ -129,6 +131,8 @@ check_stage old new topology (status.TooLong name) a =
 check_stage old new topology (status.BadTopology reason) a = inr (inl (reason, a.0.1.0, a.0.1.1, a.0.1.2, refl))
 check_stage old new topology status.OutOfMemory a = inr (inr (inr (inr refl)))
 check_stage old new topology status.Usage a = absurd a.0
+check_stage old new topology (status.NotLegal entry) a = absurd a.0
+check_stage old new topology (status.BadJournal line) a = absurd a.0
 check_stage old new topology (status.ExpectFailed line) a = absurd a.0
 check_stage old new topology (status.Refused line reason) a = absurd a.0
 check_stage old new topology (status.StepsSpent line) a = absurd a.0
@@ -138,7 +142,7 @@ check_stage old new topology (status.BadCapture host e at) a = absurd a.0
 check_stage old new topology (status.BadSection host e) a = absurd a.0
 
 -- a topology that is refused, or too long
-bad_topology_by : (old new : ShelfMoment) (topology : List ℕ) (e : Status) → TopologyStage old new topology e → AnswersBadTopology old new topology e
+pub bad_topology_by : (old new : ShelfMoment) (topology : List ℕ) (e : Status) → TopologyStage old new topology e → AnswersBadTopology old new topology e
 bad_topology_by old new topology e (inl a) file reason told loaded refused none =
     absurd (no_bad_topology old.held topology a.0 told a.1 file reason loaded refused)
 bad_topology_by old new topology e (inr (inl r)) file reason told loaded refused none =
@@ -149,7 +153,7 @@ bad_topology_by old new topology e (inr (inr (inl l))) file reason told loaded r
 bad_topology_by old new topology e (inr (inr (inr (inl rose)))) file reason told loaded refused none = absurd (no_read_fault old new none rose)
 bad_topology_by old new topology e (inr (inr (inr (inr memory)))) file reason told loaded refused none = inr memory
 
-long_topology_by : (old new : ShelfMoment) (topology : List ℕ) (e : Status) → TopologyStage old new topology e → AnswersLongTopology old new topology e
+pub long_topology_by : (old new : ShelfMoment) (topology : List ℕ) (e : Status) → TopologyStage old new topology e → AnswersLongTopology old new topology e
 long_topology_by old new topology e (inl a) told longer none = absurd (no_long_topology old.held topology a.0 told a.1 longer)
 long_topology_by old new topology e (inr (inl r)) told longer none =
     absurd (not_longer old.held topology told r.1 text_limit r.2.whole r.2.within longer)
@@ -189,6 +193,8 @@ check_accepted old new topology (status.BadTopology reason) a plan told has none
     absurd (no_bad_topology old.held topology plan told has a.0.1.0 reason a.0.1.1 a.0.1.2)
 check_accepted old new topology status.OutOfMemory a plan told has none = inr refl
 check_accepted old new topology status.Usage a plan told has none = absurd a.0
+check_accepted old new topology (status.NotLegal entry) a plan told has none = absurd a.0
+check_accepted old new topology (status.BadJournal line) a plan told has none = absurd a.0
 check_accepted old new topology (status.ExpectFailed line) a plan told has none = absurd a.0
 check_accepted old new topology (status.Refused line reason) a plan told has none = absurd a.0
 check_accepted old new topology (status.StepsSpent line) a plan told has none = absurd a.0

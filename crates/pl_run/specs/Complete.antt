@@ -5,6 +5,7 @@ use Rattle.pl_capture.specs.CaptureError.{offset_of}
 use Rattle.pl_wiring.specs.declared.host.Host.{Host}
 use Rattle.pl_wiring.specs.declared.host.HostNo.{HostNo}
 use Rattle.pl_wiring.specs.Plan.{Plan}
+use Rattle.pl_verdict.specs.Verdicts.{IsBadLine, IsIllegal, IsLegal}
 use Rattle.pl_script.specs.declared.error.ScriptError.TheVariants.{Line}
 use Rattle.pl_script.specs.declared.error.ScriptReason.{ScriptReason}
 use Rattle.pl_topology.specs.declared.error.TopologyError.{TopologyError}
@@ -13,7 +14,7 @@ use Rattle.pl_inputs.specs.declared.fault.CaptureFault.{CaptureFault}
 use Rattle.pl_inputs.specs.declared.fault.CaptureFault.TheVariants.{OfRecords, OfSections}
 use Rattle.pl_inputs.specs.declared.status.Status.{Status}
 use Rattle.pl_inputs.specs.Folders.{in_folder}
-use Rattle.pl_inputs.specs.Inputs.{AreRead, HasPlan, Inputs, IsLoaded, script_for, text_limit}
+use Rattle.pl_inputs.specs.Inputs.{AreRead, HasPlan, Inputs, IsLoaded, journal_limit, script_for, text_limit}
 use Rattle.pl_inputs.specs.Unread.{AreTextsRead, IsRefusedCapture, IsTooMuch}
 use Rattle.pl_inputs.specs.Words.{Asked}
 use Rattle.pl_script_rule.specs.declared.stop.Stop.{Stop}
@@ -126,5 +127,26 @@ pub record IsComplete (old new : ShelfMoment) (asked : Asked) (result : Status) 
 -- and of a topology that is checked
 pub record IsCompleteCheck (old new : ShelfMoment) (topology : List ℕ) (result : Status) : Type 0 where
   pub accepted : AnswersTopology old new topology result
+  pub bad_topology : AnswersBadTopology old new topology result
+  pub long_topology : AnswersLongTopology old new topology result
+
+-- a journal of which this is true is answered so
+abbrev pub AnswersVerdict : ShelfMoment → ShelfMoment → List ℕ → List ℕ → (Plan → List ℕ → Type 0) → Status → Status → Type 0
+AnswersVerdict old new topology journal Holds answer result =
+    (plan : Plan) (text : List ℕ) → IsShown old.held topology → IsShown old.held journal → HasPlan old.held topology plan
+    → IsLoaded old.held journal journal_limit text → Holds plan text → NoFaults old new → AnswersButForMemory result answer
+
+-- one that is longer than is allowed is answered with its name
+abbrev pub AnswersLongJournal : ShelfMoment → ShelfMoment → List ℕ → List ℕ → Status → Type 0
+AnswersLongJournal old new topology journal result =
+    (plan : Plan) → IsShown old.held topology → IsShown old.held journal → HasPlan old.held topology plan
+    → IsLonger (old.held journal) journal_limit → NoFaults old new → AnswersButForMemory result (status.TooLong journal)
+
+-- and of a journal that is checked
+pub record IsCompleteVerify (old new : ShelfMoment) (topology journal : List ℕ) (result : Status) : Type 0 where
+  pub legal : (n : ℕ) → AnswersVerdict old new topology journal (λ plan text. IsLegal plan text n) status.Done result
+  pub illegal : (n : ℕ) → AnswersVerdict old new topology journal (λ plan text. IsIllegal plan text n) (status.NotLegal n) result
+  pub bad_line : (n : ℕ) → AnswersVerdict old new topology journal (λ plan text. IsBadLine plan text n) (status.BadJournal n) result
+  pub long_journal : AnswersLongJournal old new topology journal result
   pub bad_topology : AnswersBadTopology old new topology result
   pub long_topology : AnswersLongTopology old new topology result

@@ -1,5 +1,6 @@
 pub mod Answers
 pub mod Checks
+pub mod Verified
 pub mod Generated
 pub mod Tasks
 pub mod Complete

@@ -10,3 +10,4 @@ mod generating;
 mod in_memory;
 mod program;
 mod running;
+mod verify;

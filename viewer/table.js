@@ -32,6 +32,12 @@ globalThis.Table = {
 | "NoMember" | "no_way"; at a host that has not joined "reception_noted" | pl_switch_rule/GroupForwarding, pl_world/OtherActs |
 | which of a switch's, by what it knows then, in their order: of a frame that came; of one that the switch made | "cause_of"; "cause_of_made" | pl_switch_rule/CauseOf |
 | all of them: which frames a step drops; what the journal shows | "dropped"; "CauseShows" | pl_world/Drops, pl_journal/Causes |
+| rule | definition | file |
+|---|---|---|
+| A journal is legal where each of its lines is an entry's and each entry may follow those before it | "IsLegal"; "Follows", "CrossesWell" | pl_verdict/Verdicts, pl_journal/Lossy |
+| The first entry that may not is told | "IsIllegal", "FirstFails" | pl_verdict/Verdicts |
+| The first line that is no entry's is told, before any entry that may not follow | "IsBadLine" | pl_verdict/Verdicts |
+| Of which entries a line can be, and what a line is | "IsWritable", "IsJournalText"; "line_of" | pl_journal_text/Writable, pl_journal/Text |
 `,
     bridge: String.raw`
 | line, or cause of "dropped" | definition | file |

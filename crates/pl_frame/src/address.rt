@@ -1,10 +1,14 @@
-ghost use Rattle.std.specs.Prelude.{◌≡◌, ◌+◌, ◌≤◌, ◌↔◌, length, IsTrue, Some};
+ghost use Rattle.std.specs.Prelude.{◌≡◌, ◌+◌, ◌≤◌, ◌↔◌, length, nat_eq, IsTrue, Some};
 ghost use Rattle.pl_frame.specs.Address.{IsGroup, hex_pair, mac_at, mac_text, ip4_text};
+ghost use Rattle.std.proofs.Common.{rules};
+ghost use Rattle.std.specs.Cmp.Rules.{comparing};
+ghost use Rattle.std.specs.Cmp.Lexicographic.{pointwise};
+ghost use Rattle.std.specs.Ordering.{on};
 
 use std::fmt;
 
 /// A 48-bit MAC address (IEEE 802), its bytes in the order of transmission.
-#[derive(Clone, Copy, Debug, PartialEq, Eq, PartialOrd, Ord, Hash)]
+#[derive(Clone, Copy, Debug, Eq, PartialOrd, Ord, Hash)]
 pub struct Mac(pub [u8; 6]);
 
 impl Mac {
@@ -25,6 +29,19 @@ impl Mac {
         ensures { IsTrue result ↔ IsGroup self.now }
     {
         self.0[0] % 2 == 1
+    }
+}
+
+/// All six bytes at once: a derived comparison goes byte by byte.
+impl PartialEq for Mac {
+    ghost eq = { on (λ mac. mac.0) (pointwise nat_eq) };
+
+    ghost laws = { Prim.search (comparing, rules) };
+
+    fn eq(&self, other: &Self) -> bool {
+        let [a0, a1, a2, a3, a4, a5] = self.0;
+        let [b0, b1, b2, b3, b4, b5] = other.0;
+        a0 == b0 && a1 == b1 && a2 == b2 && a3 == b3 && a4 == b4 && a5 == b5
     }
 }
 

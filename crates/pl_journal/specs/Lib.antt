@@ -4,3 +4,4 @@ pub mod Causes
 pub mod Lossy
 pub mod Text
 pub mod Savable
+pub mod Ranges

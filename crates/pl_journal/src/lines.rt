@@ -1,5 +1,7 @@
-ghost use Rattle.std.specs.Prelude.{◌≡◌, [], ◌∷◌, ◌++◌, OnOk, OnErr, codes, decimal, string_bytes};
-ghost use Rattle.hex.specs.Hex.{encode_lower};
+ghost use Rattle.std.specs.Prelude.{◌≡◌, ◌^◌, [], ◌∷◌, ◌++◌, OnOk, OnErr, codes, decimal, string_bytes};
+ghost use Rattle.hex.specs.Hex.{IsBytes, encode_lower};
+ghost use Rattle.pl_pmac.specs.Pmac.{PmacFits};
+ghost use Rattle.pl_journal.specs.Ranges.{Fits, IsPart};
 ghost use Rattle.pl_journal.specs.Text.{IsHost, IsNamed, IsSwitch, address_text, field_text, host_text, line_of, part_text, place_texts, switch_text, texts, words_of};
 
 use crate::{Entry, Field, Memory, Words};
@@ -12,7 +14,8 @@ impl Entry {
     /// The words of the entry's line, with hosts by their names and switches by their labels.
     pub fn words<'a>(&'a self, wiring: &'a Wiring) -> Words<'a>
         requires { IsNamed wiring.now self.now }
-        ensures { texts result ≡ words_of wiring.now self.now }
+        ensures words { texts result ≡ words_of wiring.now self.now }
+        ensures fits { Fits self.now }
     {
         match self {
             Entry::Line(n) => one("line", count(*n)),
@@ -53,15 +56,17 @@ pub fn write_line(out: &mut String, wiring: &Wiring, entry: &Entry) -> Result<()
 }
 
 fn carried<'a>(word: &'static str, id: u64, by: Field<'a>, frame: &'a Frame) -> Words<'a>
-    ensures { texts result ≡
+    ensures words { texts result ≡
         word.now ∷ decimal id ∷ field_text by.entry ∷ encode_lower frame.now ∷ [] }
+    ensures fits { IsBytes frame.now }
 {
-    three(word, number(id), by, Field::Bytes(frame.bytes()))
+    three(word, number(id), by, bytes(frame.bytes()))
 }
 
 fn redirected(id: u64, old: Pmac, new: Pmac) -> Words<'static>
-    ensures { texts result ≡
+    ensures words { texts result ≡
         codes "redirected" ∷ decimal id ∷ address_text old ∷ address_text new ∷ [] }
+    ensures fits { PmacFits old × PmacFits new }
 {
     three("redirected", number(id), address(old), address(new))
 }
@@ -69,7 +74,8 @@ fn redirected(id: u64, old: Pmac, new: Pmac) -> Words<'static>
 fn granted<'a>(wiring: &'a Wiring, pmac: Pmac, host: HostNo, edge: SwitchNo, port: u8) -> Words<'a>
     requires host { IsHost wiring.now host.0 }
     requires edge { IsSwitch wiring.now edge.0 }
-    ensures { texts result ≡ words_of wiring.now (Entry.Granted pmac host edge port) }
+    ensures words { texts result ≡ words_of wiring.now (Entry.Granted pmac host edge port) }
+    ensures fits { PmacFits pmac }
 {
     let port = count(u32::from(port));
     four(
@@ -91,7 +97,8 @@ fn moved<'a>(wiring: &'a Wiring, host: HostNo, edge: SwitchNo, port: u8) -> Word
 }
 
 fn placed<'a>(switch: Field<'a>, place: Place) -> Words<'a>
-    ensures { texts result ≡ codes "placed" ∷ field_text switch.entry ∷ place_texts place }
+    ensures words { texts result ≡ codes "placed" ∷ field_text switch.entry ∷ place_texts place }
+    ensures fits { IsPart (2 ^ 8) place.level × (IsPart (2 ^ 8) place.position × IsPart (2 ^ 16) place.pod) }
 {
     let level = part(place.level.map(u16::from));
     let position = part(place.position.map(u16::from));
@@ -150,9 +157,17 @@ fn part(part: Option<u16>) -> Field<'static>
 }
 
 fn address(pmac: Pmac) -> Field<'static>
-    ensures { field_text result ≡ address_text pmac }
+    ensures text { field_text result ≡ address_text pmac }
+    ensures fits { PmacFits pmac }
 {
     Field::Address(pack(pmac))
+}
+
+fn bytes(bytes: &[u8]) -> Field<'_>
+    ensures text { field_text result ≡ encode_lower bytes.now }
+    ensures fits { IsBytes bytes.now }
+{
+    Field::Bytes(bytes)
 }
 
 fn label(wiring: &Wiring, switch: SwitchNo) -> Field<'static>

@@ -2,7 +2,7 @@
 use Rattle.std.proofs.Common.{◌≡◌, ◌≢◌, ℕ, zero, suc, ◌<◌, ◌≤◌, ◌^◌, ◌&&◌, ◌||◌, ◌==◌, nat_lt, true, false, List, [], ◌∷◌, length, get_or, codes, decimal, Option, Some, None, Result, Ok, Err, refl, sym, ap, ◌∙◌, inl, inr, arith}
 use Rattle.pl_journal.specs.Text.{part_text}
 use Rattle.pl_journal_text.specs.Reading.{Reads}
-use Rattle.pl_journal_text.specs.Writable.{IsLong, IsPart}
+use Rattle.pl_journal.specs.Ranges.{IsLong, IsPart}
 use Rattle.std.specs.Char.{is_ascii_digit}
 use Rattle.std.specs.List.{list_all}
 use Rattle.std.specs.Fmt.{digits}

@@ -29,7 +29,7 @@ use Rattle.pl_journal_text.specs.declared.verb.Verb.TheVariants as verbs
 use Rattle.pl_journal_text.specs.Ink.{address_bytes}
 use Rattle.pl_journal_text.specs.Reading.{IsFree, Reads}
 use Rattle.pl_journal_text.specs.Verbs.{all_causes, all_skips, all_verbs, verb_text}
-use Rattle.pl_journal_text.specs.Writable.{IsFrame, IsPart}
+use Rattle.pl_journal.specs.Ranges.{IsFrame, IsPart}
 use Rattle.pl_journal_text.proofs.AddressLemmas.{same_digits, written, written_long}
 use Rattle.pl_journal_text.proofs.Cuts.{cut_once}
 

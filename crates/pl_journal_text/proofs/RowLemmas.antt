@@ -15,7 +15,7 @@ use Rattle.pl_journal_text.specs.declared.verb.Verb.TheVariants as verbs
 use Rattle.pl_journal_text.specs.Fields.{AreEndsOf, IsOfVerb, ends_text, fields_text}
 use Rattle.pl_journal_text.specs.Ink.{at_most_blank, free_of, switch_ink}
 use Rattle.pl_journal_text.specs.Reading.{Reads}
-use Rattle.pl_journal_text.specs.Writable.{IsByte, IsCount, IsFrame, IsLong, IsPart}
+use Rattle.pl_journal.specs.Ranges.{IsByte, IsCount, IsFrame, IsLong, IsPart}
 use Rattle.pl_journal_text.proofs.Cuts.{cut_once}
 use Rattle.pl_journal_text.proofs.OneSpelling.{same_switch}
 

@@ -30,7 +30,7 @@ use Rattle.pl_journal.specs.declared.cause.Skip.{Skip}
 use Rattle.pl_journal.specs.declared.cause.Skip.TheVariants as skips
 use Rattle.pl_journal.specs.Text.{IsSwitch, address_text, cause_text, host_text, part_text, skip_text, switch_text}
 use Rattle.pl_journal_text.specs.Reading.{IsFree}
-use Rattle.pl_journal_text.specs.Writable.{IsPart}
+use Rattle.pl_journal.specs.Ranges.{IsPart}
 
 -- a printed character of ASCII, and no blank
 abbrev pub is_ink : ℕ → Bool

@@ -4,28 +4,10 @@ use Rattle.std.specs.Prelude.{◌≡◌, ℕ, ◌<◌, ◌≤◌, ◌^◌, List,
 use Rattle.hex.specs.Hex.{IsBytes}
 use Rattle.pl_pmac.specs.Pmac.{PmacFits}
 use Rattle.pl_wiring.specs.Plan.{Plan}
+use Rattle.pl_journal.specs.Ranges.{IsByte, IsCount, IsFrame, IsLong, IsPart}
 use Rattle.pl_journal.specs.Text.{IsHost, IsSwitch, journal_text}
 use Rattle.pl_journal.specs.declared.entry.Entry.{Entry}
 use Rattle.pl_journal.specs.declared.entry.Entry.TheVariants.{Line, Sent, Skipped, Made, Crossed, Redirected, Copied, Arrived, Taken, Dropped, Granted, Registered, Freed, Placed, LinkDown, LinkUp, Moved, Settled, Unsettled}
-
--- numbers of 64, 32 and 8 bits
-abbrev pub IsLong : ℕ → Type 0
-IsLong n = n < 2 ^ 64
-
-abbrev pub IsCount : ℕ → Type 0
-IsCount n = n < 2 ^ 32
-
-abbrev pub IsByte : ℕ → Type 0
-IsByte n = n < 2 ^ 8
-
--- a frame has 14 to 65,553 bytes
-abbrev pub IsFrame : List ℕ → Type 0
-IsFrame frame = (14 ≤ length frame) × (length frame ≤ 65553) × IsBytes frame
-
--- a part of a place, below this, where it is known
-abbrev pub IsPart : ℕ → Option ℕ → Type 0
-IsPart limit None = Unit {0}
-IsPart limit (Some n) = n < limit
 
 abbrev pub AreEnds : Plan → ℕ → ℕ → Type 0
 AreEnds plan a b = IsSwitch plan a × IsSwitch plan b × (a < b)

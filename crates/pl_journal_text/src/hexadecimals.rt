@@ -3,7 +3,7 @@ ghost use Rattle.std.specs.List.{list_all};
 ghost use Rattle.hex.specs.Hex.{IsBytes, encode_lower};
 ghost use Rattle.pl_journal_text.specs.Hexadecimals.{is_lower_digit};
 ghost use Rattle.pl_journal_text.specs.Reading.{Reads};
-ghost use Rattle.pl_journal_text.specs.Writable.{IsFrame};
+ghost use Rattle.pl_journal.specs.Ranges.{IsFrame};
 
 use crate::from_text::FromText;
 use hex::FromHexError;

@@ -4,7 +4,7 @@ ghost use Rattle.std.specs.List.{list_all};
 ghost use Rattle.pl_journal.specs.Text.{part_text};
 ghost use Rattle.pl_journal_text.specs.Numerals.{is_numeral};
 ghost use Rattle.pl_journal_text.specs.Reading.{Reads};
-ghost use Rattle.pl_journal_text.specs.Writable.{IsByte, IsCount, IsLong, IsPart};
+ghost use Rattle.pl_journal.specs.Ranges.{IsByte, IsCount, IsLong, IsPart};
 
 use crate::from_text::{FromText, Word};
 use pl_journal::Memory;

@@ -1,5 +1,5 @@
 -- Each entry that a run writes can be saved.
-use Rattle.std.proofs.Common.{ap, ◌≡◌, ℕ, zero, suc, ◌+◌, ◌<◌, ◌≤◌, ◌&&◌, nat_lt, Bool, true, false, if◌then◌else◌, All, Contains, List, [], ◌∷◌, ◌++◌, length, Option, Some, None, set, refl, sym, ◌∙◌, subst, arith}
+use Rattle.std.proofs.Common.{ap, ◌≡◌, ℕ, IsTrue, fold, map, slice_get, zero, suc, ◌+◌, ◌<◌, ◌&&◌, nat_lt, Bool, true, false, if◌then◌else◌, All, Contains, List, [], ◌∷◌, ◌++◌, length, Option, Some, None, set, refl, sym, ◌∙◌, subst, arith}
 use Rattle.std.specs.List.{AllByRecursion, find}
 use Rattle.std.proofs.lemmas.Bool.{and_parts, ltb-true}
 use Rattle.std.proofs.lemmas.List.Elements.{All-append, All-cons, All-nil, All-push}
@@ -10,7 +10,9 @@ use Rattle.pl_wiring.specs.declared.link.Link.{Link}
 use Rattle.pl_wiring.specs.FatTree.{IsTreeLink}
 use Rattle.pl_wiring.specs.Index.{port_index}
 use Rattle.pl_wiring.specs.Labels.{switch_count}
-use Rattle.pl_wiring.specs.Peers.{peer_of}
+use Rattle.pl_wiring.specs.declared.link.Peer.TheVariants.{Switch}
+use Rattle.pl_wiring.specs.declared.label.SwitchNo.{SwitchNo}
+use Rattle.pl_wiring.specs.Peers.{IsPort, peer_of}
 use Rattle.pl_wiring.specs.Plan.{IsPlan, Plan}
 use Rattle.pl_wiring.proofs.Exports.{at_contained, tree_ends}
 use Rattle.pl_layouts.specs.declared.place.Place.{Place}
@@ -21,18 +23,21 @@ use Rattle.pl_journal.specs.declared.cause.Skip.{Skip}
 use Rattle.pl_journal.specs.declared.entry.Entry.{Entry}
 use Rattle.pl_journal.specs.declared.entry.Entry.TheVariants.{Arrived, Copied, Crossed, Dropped, Freed, Granted, Line, LinkDown, LinkUp, Made, Moved, Placed, Redirected, Registered, Sent, Settled, Skipped, Taken, Unsettled}
 use Rattle.pl_journal.specs.Places.{is_host_port}
-use Rattle.pl_journal.specs.Savable.{IsSavable}
+use Rattle.pl_journal.specs.Savable.{IsSavable, IsWhole}
 use Rattle.pl_journal.specs.Text.{IsHost, IsSwitch}
 use Rattle.pl_node.specs.declared.acts.Act.{Act}
 use Rattle.pl_node.specs.declared.acts.Act.TheVariants as act
 use Rattle.pl_node.specs.declared.messages.ToManager.{ToManager}
 use Rattle.pl_node.specs.declared.reception.Reception.{Reception}
 use Rattle.pl_node.specs.declared.reception.Reception.TheVariants.{Kept, NotMember}
-use Rattle.pl_node.specs.Accounting.{AccountsForFrames}
-use Rattle.pl_node.specs.HostDuties.{HostsSendData}
+use Rattle.pl_node.specs.Accounting.{AccountsForFrames, CanCome, IsFit, IsMade, IsShaped, IsWholeFrame}
+use Rattle.pl_node.specs.declared.acts.HostAct.{HostAct}
+use Rattle.pl_node.specs.declared.acts.HostAct.TheVariants.{Send}
+use Rattle.pl_node.specs.HostDuties.{HoldsData, HostsSendData, are_data, is_data, sent_by}
 use Rattle.pl_node.specs.HostInputs.{HostAnswer, HostInput, HostRule}
 use Rattle.pl_node.specs.ManagerDuties.{ManagerRule}
 use Rattle.pl_node.specs.SwitchInputs.{SwitchInput, SwitchRule}
+use Rattle.pl_node.specs.SwitchInputs.SwitchInput.{Comes}
 use Rattle.pl_node.specs.HostViews.{HostView}
 use Rattle.pl_node.specs.SwitchViews.{SwitchView}
 use Rattle.pl_world.specs.declared.error.StepError.TheVariants.{NoSuch}
@@ -45,16 +50,16 @@ use Rattle.pl_world.specs.declared.attachment.AttachmentPoint.{AttachmentPoint}
 use Rattle.pl_world.specs.declared.limits.Limits.{Limits}
 use Rattle.pl_world.specs.Booting.{booted}
 use Rattle.pl_world.specs.Changes.{all_noted, host_no, host_of, is_failed_at, noted, receiver, switch_no}
-use Rattle.pl_world.specs.Flying.{IsCounted, IsItem}
+use Rattle.pl_world.specs.Flying.{IsCounted, IsDataItem, IsItem, IsTreePort}
 use Rattle.pl_world.specs.LinksAndMoves.{host_moved, joins, link_between}
-use Rattle.pl_world.specs.OtherActs.{heard_after_tick, reception_noted, skip_noted}
+use Rattle.pl_world.specs.OtherActs.{heard_after_tick, host_act_done, reception_noted, skip_noted}
 use Rattle.pl_world.specs.Refusals.{has_host, has_port, has_switch, is_for_hosts, refusal, refusal_of_event, refusal_of_move}
 use Rattle.pl_world.specs.Runs.{IsMark, Moment, WorldRun}
 use Rattle.pl_world.specs.Runs.Moment.{Mark, Step}
 use Rattle.pl_world.specs.SwitchActs.{DuringActs, act_done, acts_done, begins, crossed_again, ended, goes_out, granted, in_world, passed, place_noted, redirected, with_late}
 use Rattle.pl_world.specs.WorldRule.{ComesAtHost, ComesAtSwitch, ComesOut, HostTurn, ManagerTurn, SwitchTurn, WorldStep, heard_item}
 use Rattle.pl_world.specs.Worlds.{WorldView}
-use Rattle.pl_world.proofs.Exports.{event_is_not_refused, failed_left, Happened, happened, head_is_item, host_acts_left, lost_left, manager_acts_left, marked_counted, moved_left, repaired_left, same_refusal, step_is_counted, tested, Writes}
+use Rattle.pl_world.proofs.Exports.{all_found, data_is_frame, event_is_not_refused, failed_left, Happened, happened, head_is_item, lost_left, manager_acts_left, marked_counted, moved_left, repaired_left, peer_is_port, same_refusal, sent_is_item, step_is_counted, tested, Writes}
 use Rattle.pl_world.proofs.Exports.Happened.{Asked, Departed, Failed, FromHost, Lost, Ordered, OutOfPort, OverLink, PlayedFrame, Repaired, Reported, Ticked}
 
 -- a world of this wiring, and each entry of its journal can be saved
@@ -64,6 +69,15 @@ pub record Keeps (plan of : Plan) (journal : List Entry) : Type 0 where
 
 abbrev pub Saves : Plan → WorldView → Type 0
 Saves plan w = Keeps plan w.plan w.journal
+
+-- a frame that may be carried
+is_whole : (frame : List ℕ) → IsWholeFrame frame → IsWhole frame
+is_whole frame whole = record { low = whole.low; high = whole.high }
+
+-- switches with so many ports, all that they keep in order
+record AreSwitches (k : ℕ) (switches : List SwitchView) : Type 0 where
+  ports : AllByRecursion (λ v. v.k ≡ k) switches
+  shaped : AllByRecursion IsShaped switches
 
 module _ (plan : Plan) where
   notes : (w : WorldView) (e : Entry) → IsSavable plan e → Saves plan w → Saves plan (noted w e)
@@ -96,11 +110,11 @@ module _ (plan : Plan) where
     grants w pmac (Some h) found saves =
         notes w (Granted pmac (host_no h) (switch_no s) pmac.port) (record { named = (found h refl, there); carried = tt }) saves
 
-    makes : (d : DuringActs) (frame : List ℕ) → Going d → Going (act_done s d (act.Make frame))
-    makes d frame g =
+    makes : (d : DuringActs) (frame : List ℕ) → IsMade frame → Going d → Going (act_done s d (act.Make frame))
+    makes d frame is g =
         let late : Saves plan (with_late d) = notes_all d.world d.late g.late g.world in
         let made : Saves plan (noted (with_late d) (Made (d.world.begun + 1) (switch_no s) frame)) =
-        notes (with_late d) (Made (d.world.begun + 1) (switch_no s) frame) (record { named = there; carried = tt }) late in
+        notes (with_late d) (Made (d.world.begun + 1) (switch_no s) frame) (record { named = there; carried = is_whole frame is.whole }) late in
         record {
           world = notes (noted (with_late d) (Made (d.world.begun + 1) (switch_no s) frame)) (Crossed (d.world.begun + 1) (switch_no s))
               (record { named = there; carried = tt }) made;
@@ -144,36 +158,42 @@ module _ (plan : Plan) where
     finishes d end (Passed id) is g = g
     finishes d end Over is g = g
 
-    act_saves : (d : DuringActs) (a : Act) → Going d → Going (act_done s d a)
-    act_saves d (act.Control port frame) g = record { world = record { same = g.world.same; all = g.world.all }; late = g.late }
-    act_saves d (act.Tell told) g = record { world = record { same = g.world.same; all = g.world.all }; late = g.late }
-    act_saves d (act.Grant pmac amac) g = record {
+    act_saves : (d : DuringActs) (k : ℕ) (a : Act) → IsFit k a → Going d → Going (act_done s d a)
+    act_saves d k (act.Control port frame) fits g = record { world = record { same = g.world.same; all = g.world.all }; late = g.late }
+    act_saves d k (act.Tell told) fits g = record { world = record { same = g.world.same; all = g.world.all }; late = g.late }
+    act_saves d k (act.Grant pmac amac) fits g = record {
       world = grants d.world pmac (host_of d.world.plan amac)
           (λ n is. subst (λ (p : Plan). IsHost p n) g.world.same (found_within (λ host. same_mac host.mac amac) d.world.plan.hosts n is)) g.world;
       late = g.late;
     }
-    act_saves d (act.Make frame) g = makes d frame g
-    act_saves d (act.Redirect old new) g = redirects d old new d.speech g
-    act_saves d (act.Pass port frame) g = passes d port frame d.speech g
-    act_saves d act.Take g = finishes d (λ id. Taken id (switch_no s)) d.speech (λ id. record { named = there; carried = tt }) g
-    act_saves d (act.Drop cause) g = finishes d (λ id. Dropped id cause) d.speech (λ id. record { named = tt; carried = tt }) g
+    act_saves d k (act.Make frame) fits g = makes d frame fits g
+    act_saves d k (act.Redirect old new) fits g = redirects d old new d.speech g
+    act_saves d k (act.Pass port frame) fits g = passes d port frame d.speech g
+    act_saves d k act.Take fits g = finishes d (λ id. Taken id (switch_no s)) d.speech (λ id. record { named = there; carried = tt }) g
+    act_saves d k (act.Drop cause) fits g = finishes d (λ id. Dropped id cause) d.speech (λ id. record { named = tt; carried = tt }) g
 
-    acts_save : (d : DuringActs) (acts : List Act) → Going d → Going (acts_done s d acts)
-    acts_save d [] g = g
-    acts_save d (a ∷ acts) g = acts_save (act_done s d a) acts (act_saves d a g)
+    acts_save : (d : DuringActs) (k : ℕ) (acts : List Act) → AllByRecursion (IsFit k) acts → Going d → Going (acts_done s d acts)
+    acts_save d k [] fits g = g
+    acts_save d k (a ∷ acts) fits g = acts_save (act_done s d a) k acts fits.1 (act_saves d k a fits.0 g)
 
-    stepped : (w : WorldView) (speech : SpokenFrame) (old new : Place) (acts : List Act) → Saves plan w →
+    stepped : (w : WorldView) (speech : SpokenFrame) (old new : Place) (k : ℕ) (acts : List Act) → AllByRecursion (IsFit k) acts → Saves plan w →
         Saves plan (place_noted s old new (with_late (acts_done s (begins w speech) acts)))
-    stepped w speech old new acts saves =
-        let done : Going (acts_done s (begins w speech) acts) = acts_save (begins w speech) acts (record { world = saves; late = All-nil (IsSavable plan) }) in
+    stepped w speech old new k acts fits saves =
+        let done : Going (acts_done s (begins w speech) acts) = acts_save (begins w speech) k acts fits (record { world = saves; late = All-nil (IsSavable plan) }) in
         notes_all (with_late (acts_done s (begins w speech) acts)) (if same_place old new then [] else Placed (switch_no s) new ∷ [])
         (none_or_one (same_place old new) (Placed (switch_no s) new) (record { named = there; carried = tt }))
         (notes_all (acts_done s (begins w speech) acts).world (acts_done s (begins w speech) acts).late done.late done.world)
 
-  switch_saves : (rule : SwitchRule) (w : WorldView) (s : ℕ) (input : SwitchInput) (speech : SpokenFrame) (new : WorldView) → IsSwitch plan s → Saves plan w →
+  -- a switch of a world, and what it can be given
+  switch_saves : (rule : SwitchRule) → AccountsForFrames rule → (w : WorldView) (s : ℕ) (input : SwitchInput) (speech : SpokenFrame) (new : WorldView) →
+      AreSwitches plan.k w.switches → ((v : SwitchView) → v.k ≡ plan.k → CanCome v input) → IsSwitch plan s → Saves plan w →
       SwitchTurn rule w s input speech new → Saves plan new
-  switch_saves rule w s input speech new there saves turn = subst (λ (x : WorldView). Saves plan x) (sym turn.changed)
-      (stepped s there (record w { switches = set w.switches s turn.after }) speech turn.before.place turn.after.place turn.acts
+  switch_saves rule accounts w s input speech new are can there saves turn =
+      let size : turn.before.k ≡ plan.k = all_found (λ (v : SwitchView). v.k ≡ plan.k) w.switches s turn.before turn.found are.ports in
+      let shaped : IsShaped turn.before = all_found IsShaped w.switches s turn.before turn.found are.shaped in
+      let kept = accounts turn.before input turn.after turn.acts shaped (can turn.before size) turn.ruled in
+      subst (λ (x : WorldView). Saves plan x) (sym turn.changed)
+      (stepped s there (record w { switches = set w.switches s turn.after }) speech turn.before.place turn.after.place turn.before.k turn.acts kept.fit
       (record { same = saves.same; all = saves.all }))
 
   -- ---- what a world is made of
@@ -190,11 +210,25 @@ module _ (plan : Plan) where
       }
 
   -- ---- hosts and the manager
-  host_saves : (rule : HostRule) (w : WorldView) (h : ℕ) (input : HostInput) (answer : HostAnswer) (new : WorldView) → IsHost plan h → Saves plan w →
-      HostTurn rule w h input answer new → Saves plan new
-  host_saves rule w h input answer new there saves turn =
-      host_acts_left KeepsSavable (IsSavable plan) saves_writes h
-      (λ u frame. saves_writes.entry u (Sent (u.begun + 1) (host_no h) frame) (record { named = there; carried = tt })) rule w input answer new turn saves
+  host_act_saves : (w : WorldView) (h : ℕ) (a : HostAct) → IsHost plan h → IsTrue (is_data (sent_by a)) → Saves plan w → Saves plan (host_act_done h w a)
+  host_act_saves w h (Send frame) there is saves =
+      let noted_so = notes w (Sent (w.begun + 1) (host_no h) frame) (record { named = there; carried = is_whole frame (data_is_frame frame is).whole }) saves in
+      record { same = noted_so.same; all = noted_so.all }
+
+  host_acts_save : (w : WorldView) (h : ℕ) (acts : List HostAct) → IsHost plan h → IsTrue (are_data (map sent_by acts)) → Saves plan w →
+      Saves plan (fold (host_act_done h) w acts)
+  host_acts_save w h [] there are saves = saves
+  host_acts_save w h (a ∷ acts) there are saves =
+      let both = and_parts (is_data (sent_by a)) (are_data (map sent_by acts)) are in
+      host_acts_save (host_act_done h w a) h acts there both.1 (host_act_saves w h a there both.0 saves)
+
+  host_saves : (rule : HostRule) → HostsSendData rule → (w : WorldView) (h : ℕ) (input : HostInput) (answer : HostAnswer) (new : WorldView) →
+      AllByRecursion HoldsData w.hosts → IsHost plan h → Saves plan w → HostTurn rule w h input answer new → Saves plan new
+  host_saves rule sends w h input answer new are there saves turn =
+      let holds : HoldsData turn.before = all_found HoldsData w.hosts h turn.before turn.found are in
+      let owed = sends turn.before input turn.after turn.acts answer holds turn.ruled in
+      subst (λ (x : WorldView). Saves plan x) (sym turn.changed)
+      (host_acts_save (record w { hosts = set w.hosts h turn.after }) h turn.acts there owed.sends (record { same = saves.same; all = saves.all }))
 
   manager_saves : (rule : ManagerRule) (w : WorldView) (s : ℕ) (told : ToManager) (new : WorldView) → Saves plan w → ManagerTurn rule w s told new → Saves plan new
   manager_saves rule w s told new saves turn =
@@ -202,10 +236,12 @@ module _ (plan : Plan) where
       (λ u t says more. more) rule w s told new turn saves
 
   -- ---- what comes
-  -- as many switches and hosts as the wiring has
+  -- as many switches and hosts as the wiring has, each in order
   record Many (w : WorldView) : Type 0 where
     switches : length w.switches ≡ switch_count plan.k
     hosts : length w.hosts ≡ length plan.hosts
+    are : AreSwitches plan.k w.switches
+    hold : AllByRecursion HoldsData w.hosts
 
   host_there : (rule : HostRule) (w : WorldView) (h : ℕ) (input : HostInput) (answer : HostAnswer) (new : WorldView) → Many w →
       HostTurn rule w h input answer new → IsHost plan h
@@ -217,33 +253,43 @@ module _ (plan : Plan) where
   switch_there rule w s input speech new many turn =
       let within : s < length w.switches = slice_get_within w.switches s turn.before turn.found in let e = many.switches in omega arith
 
-  at_switch : (rule : SwitchRule) (w : WorldView) (s port : ℕ) (item : Item) (new : WorldView) → Many w → Saves plan w → ComesAtSwitch rule w s port item new → Saves plan new
-  at_switch rule w s port (Control frame) new many saves turn = switch_saves rule w s _ _ new (switch_there rule w s _ _ new many turn) saves turn
-  at_switch rule w s port (Data id frame) new many saves turn =
-      let there : IsSwitch plan s = switch_there rule (noted w (Crossed id (switch_no s))) s _ _ new (record { switches = many.switches; hosts = many.hosts }) turn in
-      switch_saves rule (noted w (Crossed id (switch_no s))) s _ _ new there
+  same_many : (w mid : WorldView) → mid.switches ≡ w.switches → mid.hosts ≡ w.hosts → Many w → Many mid
+  same_many w mid switches hosts many = record {
+    switches = ap (λ (xs : List SwitchView). length xs) switches ∙ many.switches;
+    hosts = ap (λ (xs : List HostView). length xs) hosts ∙ many.hosts;
+    are = subst (λ (xs : List SwitchView). AreSwitches plan.k xs) (sym switches) many.are;
+    hold = subst (λ (xs : List HostView). AllByRecursion HoldsData xs) (sym hosts) many.hold;
+  }
+
+  whole_item : (v : SwitchView) (port : ℕ) (frame : List ℕ) → port < plan.k → IsWholeFrame frame → v.k ≡ plan.k → CanCome v (Comes port frame)
+  whole_item v port frame within whole size = record { within = rw size within; whole = whole }
+
+  at_switch : (rule : SwitchRule) → AccountsForFrames rule → (w : WorldView) (s port : ℕ) (item : Item) (new : WorldView) → port < plan.k → IsItem item → Many w →
+      Saves plan w → ComesAtSwitch rule w s port item new → Saves plan new
+  at_switch rule accounts w s port (Control frame) new within is many saves turn =
+      switch_saves rule accounts w s _ _ new many.are (λ v size. whole_item v port frame within is.whole size) (switch_there rule w s _ _ new many turn) saves turn
+  at_switch rule accounts w s port (Data id frame) new within is many saves turn =
+      let mid : WorldView = noted w (Crossed id (switch_no s)) in
+      let there : IsSwitch plan s = switch_there rule mid s _ _ new (same_many w mid refl refl many) turn in
+      switch_saves rule accounts mid s _ _ new many.are (λ v size. whole_item v port frame within is.whole size) there
       (notes w (Crossed id (switch_no s)) (record { named = there; carried = tt }) saves) turn
 
-  same_many : (w mid : WorldView) → mid.switches ≡ w.switches → mid.hosts ≡ w.hosts → Many w → Many mid
-  same_many w mid switches hosts many =
-      record { switches = ap (λ (xs : List SwitchView). length xs) switches ∙ many.switches; hosts = ap (λ (xs : List HostView). length xs) hosts ∙ many.hosts }
-
   -- a host turns behind something that leaves all as they were
-  turn_saves : (rule : HostRule) (w mid : WorldView) (h : ℕ) (input : HostInput) (answer : HostAnswer) (new : WorldView) → mid.hosts ≡ w.hosts → Many w →
-      (IsHost plan h → Saves plan mid) → HostTurn rule mid h input answer new → Saves plan new
-  turn_saves rule w mid h input answer new same many saves turn =
+  turn_saves : (rule : HostRule) → HostsSendData rule → (w mid : WorldView) (h : ℕ) (input : HostInput) (answer : HostAnswer) (new : WorldView) →
+      mid.hosts ≡ w.hosts → Many w → (IsHost plan h → Saves plan mid) → HostTurn rule mid h input answer new → Saves plan new
+  turn_saves rule sends w mid h input answer new same many saves turn =
       let within : h < length mid.hosts = slice_get_within mid.hosts h turn.before turn.found in
       let there : IsHost plan h = let e = ap (λ (xs : List HostView). length xs) same ∙ many.hosts in omega arith in
-      host_saves rule mid h input answer new there (saves there) turn
+      host_saves rule sends mid h input answer new (subst (λ (xs : List HostView). AllByRecursion HoldsData xs) (sym same) many.hold) there (saves there) turn
 
   reception_hosts : (w : WorldView) (h id : ℕ) (frame : List ℕ) (reception : Reception) → (reception_noted w h id frame reception).hosts ≡ w.hosts
   reception_hosts w h id frame Kept = refl
   reception_hosts w h id frame NotMember = refl
 
-  received : (w : WorldView) (h id : ℕ) (frame : List ℕ) (reception : Reception) → length frame ≤ 65553 → Saves plan w → IsHost plan h →
+  received : (w : WorldView) (h id : ℕ) (frame : List ℕ) (reception : Reception) → IsWholeFrame frame → Saves plan w → IsHost plan h →
       Saves plan (reception_noted w h id frame reception)
-  received w h id frame Kept short saves there = notes w (Arrived id (host_no h) frame) (record { named = there; carried = short }) saves
-  received w h id frame NotMember short saves there = notes w (Dropped id cause.NoMember) (record { named = tt; carried = tt }) saves
+  received w h id frame Kept whole saves there = notes w (Arrived id (host_no h) frame) (record { named = there; carried = is_whole frame whole }) saves
+  received w h id frame NotMember whole saves there = notes w (Dropped id cause.NoMember) (record { named = tt; carried = tt }) saves
 
   skip_hosts : (w : WorldView) (h : ℕ) (skip : Option Skip) → (skip_noted w h skip).hosts ≡ w.hosts
   skip_hosts w h None = refl
@@ -253,18 +299,19 @@ module _ (plan : Plan) where
   skipped w h None saves there = saves
   skipped w h (Some skip) saves there = notes w (Skipped (host_no h) skip) (record { named = there; carried = tt }) saves
 
-  at_host : (rule : HostRule) (w : WorldView) (id : ℕ) (frame : List ℕ) (to : Option ℕ) (new : WorldView) → length frame ≤ 65553 → Many w → Saves plan w →
-      ComesAtHost rule w id frame to new → Saves plan new
-  at_host rule w id frame None new short many saves is =
+  at_host : (rule : HostRule) → HostsSendData rule → (w : WorldView) (id : ℕ) (frame : List ℕ) (to : Option ℕ) (new : WorldView) → IsWholeFrame frame → Many w →
+      Saves plan w → ComesAtHost rule w id frame to new → Saves plan new
+  at_host rule sends w id frame None new whole many saves is =
       subst (λ (x : WorldView). Saves plan x) (sym is) (notes w (Dropped id cause.HostGone) (record { named = tt; carried = tt }) saves)
-  at_host rule w id frame (Some h) new short many saves receives =
-      turn_saves rule w (reception_noted w h id frame receives.reception) h _ _ new (reception_hosts w h id frame receives.reception) many
-      (received w h id frame receives.reception short saves) receives.turn
+  at_host rule sends w id frame (Some h) new whole many saves receives =
+      turn_saves rule sends w (reception_noted w h id frame receives.reception) h _ _ new (reception_hosts w h id frame receives.reception) many
+      (received w h id frame receives.reception whole saves) receives.turn
 
-  comes_out : (rule : HostRule) (w : WorldView) (s port : ℕ) (item : Item) (new : WorldView) → IsItem item → Many w → Saves plan w →
+  comes_out : (rule : HostRule) → HostsSendData rule → (w : WorldView) (s port : ℕ) (item : Item) (new : WorldView) → IsItem item → Many w → Saves plan w →
       ComesOut rule w s port item new → Saves plan new
-  comes_out rule w s port (Control frame) new is many saves same = subst (λ (x : WorldView). Saves plan x) (sym same) saves
-  comes_out rule w s port (Data id frame) new is many saves comes = at_host rule w id frame (receiver w s port frame) new is.whole.high many saves comes
+  comes_out rule sends w s port (Control frame) new is many saves same = subst (λ (x : WorldView). Saves plan x) (sym same) saves
+  comes_out rule sends w s port (Data id frame) new is many saves comes =
+      at_host rule sends w id frame (receiver w s port frame) new is.whole many saves comes
 
   -- ---- links and moves
   found_contained : (p : Link → Bool) (links : List Link) (link : Link) → find p links ≡ Some link → Contains links link
@@ -308,7 +355,7 @@ moves_to_a_switch w h s port none =
     let parts = and_parts (has_switch w.plan s) (nat_lt port w.plan.k) there.0 in
     ltb-true s (switch_count w.plan.k) parts.0
 
-module _ (plan : Plan) (switch : SwitchRule) (manager : ManagerRule) (host : HostRule) where
+module _ (plan : Plan) (switch : SwitchRule) (manager : ManagerRule) (host : HostRule) (accounts : AccountsForFrames switch) (sends : HostsSendData host) where
   heard_many : (w : WorldView) (h : ℕ) (item : Item) → Many plan w → Many plan (heard_item w h item)
   heard_many w h (Control frame) many = many
   heard_many w h (Data id frame) many = same_many plan w (heard_item w h (Data id frame)) refl refl many
@@ -318,55 +365,72 @@ module _ (plan : Plan) (switch : SwitchRule) (manager : ManagerRule) (host : Hos
   heard_saves w h (Data id frame) saves = saves
 
   turns : (w mid : WorldView) (s : ℕ) (input : SwitchInput) (speech : SpokenFrame) (new : WorldView) → mid.switches ≡ w.switches → mid.hosts ≡ w.hosts →
-      Many plan w → Saves plan mid →
-      SwitchTurn switch mid s input speech new → Saves plan new
-  turns w mid s input speech new switches hosts many saves turn =
-      switch_saves plan switch mid s input speech new (switch_there plan switch mid s input speech new
-      (same_many plan w mid switches hosts many) turn) saves turn
+      ((v : SwitchView) → v.k ≡ plan.k → CanCome v input) → Many plan w → Saves plan mid → SwitchTurn switch mid s input speech new → Saves plan new
+  turns w mid s input speech new switches hosts can many saves turn =
+      let same = same_many plan w mid switches hosts many in
+      switch_saves plan switch accounts mid s input speech new same.are can (switch_there plan switch mid s input speech new same turn) saves turn
 
-  by_case : (w : WorldView) (happens : Event) (new : WorldView) → refusal_of_event w happens ≡ None → IsPlan w.plan →
-      AllByRecursion (AllByRecursion IsItem) w.out → Many plan w → Saves plan w →
+  -- a host stands at a port that is there, and so is the other end of a link
+  stands_at_port : (w : WorldView) (h : ℕ) (attachment : AttachmentPoint) → w.plan ≡ plan → AllByRecursion (IsTreePort w.plan.k) w.attachments →
+      slice_get w.attachments h ≡ Some attachment → attachment.port < plan.k
+  stands_at_port w h attachment same are at =
+      subst (λ (p : Plan). attachment.port < p.k) same (all_found (IsTreePort w.plan.k) w.attachments h attachment at are).port
+
+  leads_to_port : (w : WorldView) (s port : ℕ) (t : SwitchNo) (q : ℕ) → w.plan ≡ plan → IsPlan w.plan → peer_of w.plan s port ≡ Switch t q → q < plan.k
+  leads_to_port w s port t q same is joined =
+      subst (λ (p : Plan). q < p.k) same (subst (IsPort w.plan.k) joined (peer_is_port w.plan s port is)).1
+
+  -- what the walk needs of a world
+  record Holding (w : WorldView) : Type 0 where
+    is_plan : IsPlan w.plan
+    at_ports : AllByRecursion (IsTreePort w.plan.k) w.attachments
+    host_items : AllByRecursion (AllByRecursion IsDataItem) w.from_hosts
+    port_items : AllByRecursion (AllByRecursion IsItem) w.out
+
+  by_case : (w : WorldView) (happens : Event) (new : WorldView) → refusal_of_event w happens ≡ None → Holding w → Many plan w → Saves plan w →
       Happened switch manager host w happens new → Saves plan new
-  by_case w happens new none is_plan are many saves (FromHost h item items attachment is head at comes) =
+  by_case w happens new none has many saves (FromHost h item items attachment is head at comes) =
       let mid : WorldView = record w { from_hosts = set w.from_hosts h.0 items } in
-      at_switch plan switch (heard_item mid h.0 item) attachment.edge.0 attachment.port item new (heard_many mid h.0 item (same_many plan w mid refl refl many))
+      at_switch plan switch accounts (heard_item mid h.0 item) attachment.edge.0 attachment.port item new
+      (stands_at_port w h.0 attachment saves.same has.at_ports at) (sent_is_item w.from_hosts h.0 item items head has.host_items) (heard_many mid h.0 item (same_many plan w mid refl refl many))
       (heard_saves mid h.0 item saves) comes
-  by_case w happens new none is_plan are many saves (OverLink s port item items t q is head joined comes) =
+  by_case w happens new none has many saves (OverLink s port item items t q is head joined comes) =
       let mid : WorldView = record w { out = set w.out (port_index w.plan.k s.0 port) items } in
-      at_switch plan switch mid t.0 q item new (same_many plan w mid refl refl many) saves comes
-  by_case w happens new none is_plan are many saves (OutOfPort s port item items is head joined comes) =
+      at_switch plan switch accounts mid t.0 q item new (leads_to_port w s.0 port t q saves.same has.is_plan joined)
+      (head_is_item w.out (port_index w.plan.k s.0 port) item items head has.port_items) (same_many plan w mid refl refl many) saves comes
+  by_case w happens new none has many saves (OutOfPort s port item items is head joined comes) =
       let mid : WorldView = record w { out = set w.out (port_index w.plan.k s.0 port) items } in
-      comes_out plan host mid s.0 port item new (head_is_item w.out (port_index w.plan.k s.0 port) item items head are)
+      comes_out plan host sends mid s.0 port item new (head_is_item w.out (port_index w.plan.k s.0 port) item items head has.port_items)
       (same_many plan w mid refl refl many) saves comes
-  by_case w happens new none is_plan are many saves (Reported s told items is head turn) =
+  by_case w happens new none has many saves (Reported s told items is head turn) =
       manager_saves plan manager (record w { to_manager = set w.to_manager s.0 items }) s.0 told new saves turn
-  by_case w happens new none is_plan are many saves (Ordered s says items is head turn) =
-      turns w (record w { from_manager = set w.from_manager s.0 items }) s.0 _ _ new refl refl many saves turn
-  by_case w happens new none is_plan are many saves (Ticked s is turn) =
-      turns w (record w { heard = heard_after_tick s.0 w.attachments w.heard }) s.0 _ _ new refl refl many saves turn
-  by_case w happens new none is_plan are many saves (Failed a b link is found fails) =
-      let there = ends_there plan w a.0 b.0 link is_plan saves.same found in
+  by_case w happens new none has many saves (Ordered s says items is head turn) =
+      turns w (record w { from_manager = set w.from_manager s.0 items }) s.0 _ _ new refl refl (λ v size. tt) many saves turn
+  by_case w happens new none has many saves (Ticked s is turn) =
+      turns w (record w { heard = heard_after_tick s.0 w.attachments w.heard }) s.0 _ _ new refl refl (λ v size. tt) many saves turn
+  by_case w happens new none has many saves (Failed a b link is found fails) =
+      let there = ends_there plan w a.0 b.0 link has.is_plan saves.same found in
       subst (λ (x : WorldView). Saves plan x) (sym fails)
       (failed_left (KeepsSavable plan) (IsSavable plan) (saves_writes plan) (λ u i more. more) w link (record { named = there; carried = tt })
       (λ u links more. more) saves)
-  by_case w happens new none is_plan are many saves (Repaired a b link is found repairs) =
-      let there = ends_there plan w a.0 b.0 link is_plan saves.same found in
+  by_case w happens new none has many saves (Repaired a b link is found repairs) =
+      let there = ends_there plan w a.0 b.0 link has.is_plan saves.same found in
       subst (λ (x : WorldView). Saves plan x) (sym repairs)
       (repaired_left (KeepsSavable plan) (IsSavable plan) (saves_writes plan) w link (record { named = there; carried = tt }) (λ u links more. more) saves)
-  by_case w happens new none is_plan are many saves (Lost s port item items is head loses) =
+  by_case w happens new none has many saves (Lost s port item items is head loses) =
       subst (λ (x : WorldView). Saves plan x) (sym loses)
       (lost_left (KeepsSavable plan) (IsSavable plan) (saves_writes plan) (record w { out = set w.out (port_index w.plan.k s.0 port) items }) item saves)
-  by_case w happens new none is_plan are many saves (Departed h s port from is at turn) =
+  by_case w happens new none has many saves (Departed h s port from is at turn) =
       let to : AttachmentPoint = record { edge = s; port = port } in
       let free = subst (λ (x : Event). refusal_of_event w x ≡ None) is none in
       let edge : IsSwitch plan s.0 = subst (λ (p : Plan). IsSwitch p s.0) saves.same (moves_to_a_switch w h.0 s.0 port free) in
-      turn_saves plan host w (host_moved w h.0 from to) h.0 _ _ new refl many
+      turn_saves plan host sends w (host_moved w h.0 from to) h.0 _ _ new refl many
       (λ there. moved_left (KeepsSavable plan) (IsSavable plan) (saves_writes plan)
       (record { from_hosts = λ u n more. more; out = λ u i more. more }) w h.0 from to
       (record { named = (there, edge); carried = tt }) (λ u more. more) saves) turn
-  by_case w happens new none is_plan are many saves (PlayedFrame h input skip is turn) =
-      turn_saves plan host w (skip_noted w h.0 skip) h.0 _ _ new (skip_hosts plan w h.0 skip) many (skipped plan w h.0 skip saves) turn
-  by_case w happens new none is_plan are many saves (Asked h input is turn) = turn_saves plan host w w h.0 _ _ new refl many (λ there. saves) turn
+  by_case w happens new none has many saves (PlayedFrame h input skip is turn) =
+      turn_saves plan host sends w (skip_noted w h.0 skip) h.0 _ _ new (skip_hosts plan w h.0 skip) many (skipped plan w h.0 skip saves) turn
+  by_case w happens new none has many saves (Asked h input is turn) = turn_saves plan host sends w w h.0 _ _ new refl many (λ there. saves) turn
 
   -- the entries of a step can be saved
   pub step_saves : (old : WorldView) (happens : Event) (new : WorldView) → IsCounted old → refusal old happens ≡ None →
@@ -375,20 +439,22 @@ module _ (plan : Plan) (switch : SwitchRule) (manager : ManagerRule) (host : Hos
       let many : Many plan (record old { steps = old.steps + 1 }) = record {
         switches = subst (λ (p : Plan). length old.switches ≡ switch_count p.k) saves.same is.formed.switches;
         hosts = subst (λ (p : Plan). length old.hosts ≡ length p.hosts) saves.same is.formed.hosts;
+        are = record { ports = subst (λ (p : Plan). AllByRecursion (λ (v : SwitchView). v.k ≡ p.k) old.switches) saves.same is.formed.ports; shaped = is.shaped };
+        hold = is.holding;
       } in
       by_case (record old { steps = old.steps + 1 }) happens new (same_refusal old happens ∙ event_is_not_refused old happens none)
-      is.formed.plan is.in_port_queues many (record { same = saves.same; all = saves.all })
+      (record { is_plan = is.formed.plan; at_ports = is.formed.at_ports; host_items = is.in_host_queues; port_items = is.in_port_queues }) many (record { same = saves.same; all = saves.all })
       (happened switch manager host (record old { steps = old.steps + 1 }) happens new step)
 
   -- and so can those of a run
-  pub run_saves : AccountsForFrames switch → HostsSendData host → (old : WorldView) (moments : List Moment) (new : WorldView) → IsCounted old → Saves plan old →
+  pub run_saves : (old : WorldView) (moments : List Moment) (new : WorldView) → IsCounted old → Saves plan old →
       WorldRun switch manager host old moments new → Saves plan new
-  run_saves accounts sends old [] new is saves same = subst (λ (x : WorldView). Saves plan x) (sym same) saves
-  run_saves accounts sends old (Step e ∷ moments) new is saves run =
-      run_saves accounts sends run.0 moments new (step_is_counted switch manager host accounts sends old e run.0 is run.1.0 run.1.1)
+  run_saves old [] new is saves same = subst (λ (x : WorldView). Saves plan x) (sym same) saves
+  run_saves old (Step e ∷ moments) new is saves run =
+      run_saves run.0 moments new (step_is_counted switch manager host accounts sends old e run.0 is run.1.0 run.1.1)
       (step_saves old e run.0 is run.1.0 run.1.1 saves) run.2
-  run_saves accounts sends old (Mark e ∷ moments) new is saves run =
-      run_saves accounts sends run.0 moments new (marked_counted old run.0 e run.1.0 run.1.1 is)
+  run_saves old (Mark e ∷ moments) new is saves run =
+      run_saves run.0 moments new (marked_counted old run.0 e run.1.0 run.1.1 is)
       (subst (λ (x : WorldView). Saves plan x) (sym run.1.1) (marks plan old e run.1.0 saves)) run.2
 
 -- nothing was written at the beginning

@@ -20,7 +20,7 @@ pub use Rattle.pl_world.proofs.Runs.{marked_counted, marked_within, run_is_count
 pub use Rattle.pl_world.proofs.SameLinks.{same_states}
 pub use Rattle.pl_world.proofs.SettledQueues.{is_announced-decides, none_in, none_is_pending}
 pub use Rattle.pl_world.proofs.Stands.{stands_there, ticked_heard}
-pub use Rattle.pl_world.proofs.StepBalances.{attachments_rest, counted, event_is_not_refused, fails, found_contained, heard_rest, host_act, hosts_rest, hosts_within, noted_owes, peer_is_port, said_sound, same_refusal, Sound, sound, step_is_counted, switches_rest, tested}
+pub use Rattle.pl_world.proofs.StepBalances.{attachments_rest, counted, data_is_frame, event_is_not_refused, fails, found_contained, heard_rest, host_act, hosts_rest, hosts_within, noted_owes, peer_is_port, said_sound, same_refusal, Sound, sound, step_is_counted, switches_rest, tested}
 pub use Rattle.pl_world.proofs.SwitchActBalances.{act_said, act_steady, amid, HasRest, IsLegal, IsSteady, owed_by, owes_nothing, said_by, said_is_legal, says_rest, Steady, told_rest}
 pub use Rattle.pl_world.proofs.Turning.{at_switch_left, event_left, heard_left, host_left, Left, lost_left, manager_left, MovesAndLinks, out_left, receives_left, reception_left, skip_left, switch_left, Turned, turned, Turns}
 pub use Rattle.pl_world.proofs.Turning.Left.{LinkFails, Moves, Repairs, Stays}

@@ -7,6 +7,7 @@ use Rattle.std.specs.Map.{keys_of}
 use Rattle.std.specs.BTreeMap.{is_at}
 use Rattle.std.proofs.Math.Dec.{eqb-suc-zero}
 use Rattle.std.proofs.lemmas.Bool.{false≢true}
+use Rattle.pl_bits.specs.Rows.{trues}
 use Rattle.pl_frame.specs.declared.address.SwitchId.{SwitchId}
 use Rattle.pl_layouts.specs.declared.place.Place.{Place}
 use Rattle.pl_layouts.specs.Equality.{same_switch}
@@ -18,11 +19,11 @@ use Rattle.pl_node.specs.Trees.{aggregation_part, best_cores, core_for, core_of,
 use Rattle.pl_node.proofs.Exports.{among_filter, among_in_order, among_left, any_among, got_among, IsAmong}
 use Rattle.pl_manager_rule.proofs.Exports.{found_key, id_exact, same_is, switch_turned}
 use Rattle.pl_groups.specs.Rooted.{IsRoot}
-use Rattle.pl_groups.specs.Serving.{AreServed, many_served, part_of_told}
+use Rattle.pl_groups.specs.Serving.{many_served, part_of_told, served_at}
 use Rattle.pl_groups.specs.declared.root.Root.{Root}
 use Rattle.pl_groups.proofs.Reached.{is_adjacent}
-use Rattle.pl_groups.proofs.Edges.{Served, any_more, is_here, served_by_neighbours}
-use Rattle.pl_groups.proofs.Rows.{many_is}
+use Rattle.pl_groups.proofs.Edges.{any_more, is_here, served_by_neighbours}
+use Rattle.pl_groups.proofs.Rows.{count_is}
 
 -- ---- lists
 filter_twice : {X : Type 0} (p q : X → Bool) (xs : List X) → filter q (filter p xs) ≡ filter (λ x. p x && q x) xs
@@ -58,16 +59,25 @@ any_kept p (x ∷ xs) = by (any_kept p xs) (p x)
 pub adjacent_at_level : (told : Told) (s : SwitchId) → alive_at_level told s 1 ≡ filter (is_adjacent told s) (neighbours told s)
 adjacent_at_level told s = filter_twice (is_alive told s) (λ u. has_level told u 1) (neighbours told s)
 
-pub core_down : (told : Told) (needed : List SwitchId) (served : Served) (core : SwitchId) → AreServed told needed served →
-    filter (λ a. is_adjacent told core a && not (many_served (value_at id_cmp served a) == 0)) (neighbours told core)
+pub core_down : (told : Told) (needed : List SwitchId) (core : SwitchId) →
+    filter (λ a. is_adjacent told core a && not (many_served (served_at told needed a) == 0)) (neighbours told core)
     ≡ filter (serves told needed) (alive_at_level told core 1)
-core_down told needed served core all =
-    (λ i. filter (λ a. is_adjacent told core a && serving a i) (neighbours told core))
+core_down told needed core =
+    (λ i. filter (λ a. serving a i) (neighbours told core))
     ∙ sym (filter_twice (is_adjacent told core) (serves told needed) (neighbours told core))
     ∙ ap (filter (serves told needed)) (sym (adjacent_at_level told core))
   where
-    serving : (a : SwitchId) → not (many_served (value_at id_cmp served a) == 0) ≡ serves told needed a
-    serving a = ap (λ n. not (n == 0)) (many_is told needed served a all) ∙ sym (any_kept (is_alive told a) needed)
+    counted : (a : SwitchId) → not (trues (map (is_alive told a) needed) == 0) ≡ serves told needed a
+    counted a = ap (λ n. not (n == 0)) (count_is (is_alive told a) needed) ∙ sym (any_kept (is_alive told a) needed)
+
+    serving : (a : SwitchId) → (is_adjacent told core a && not (many_served (served_at told needed a) == 0)) ≡ (is_adjacent told core a && serves told needed a)
+    serving a = by (is_alive told core a) (has_level told a 1)
+      where
+        by : (alive level : Bool) → ((alive && level) && not (many_served (cond level (Some (map (is_alive told a) needed)) None) == 0))
+            ≡ ((alive && level) && serves told needed a)
+        by false level = refl
+        by true false = refl
+        by true true = counted a
 
 pub up_found : (told : Told) (s : SwitchId) (test : SwitchId → Bool) →
     find (λ a. has_level told a 1 && test a) (alive_neighbours told s) ≡ find test (alive_at_level told s 1)
@@ -168,7 +178,7 @@ core_is_switch told group (e ∷ needed) core h =
     let core_switch = among_filter (λ c. reach told (e ∷ needed) c == largest (map (reach told (e ∷ needed)) (cores told))) core (cores told) among in
     (among_filter (λ c. has_level told c 2) core (switches told) core_switch.0).0
 
-unplaced : (told : Told) (s : SwitchId) → list_any (same_switch s) (switches told) ≡ false → place_of told s ≡ nowhere
+pub unplaced : (told : Told) (s : SwitchId) → list_any (same_switch s) (switches told) ≡ false → place_of told s ≡ nowhere
 unplaced told s none = by (value_at id_cmp told.places s) refl
   where
     by : (o : Option Place) → value_at id_cmp told.places s ≡ o → unwrap_or o nowhere ≡ nowhere

@@ -1,24 +1,18 @@
--- What each switch serves, edge switch by edge switch.
-use Rattle.std.proofs.Common.{◌≡◌, ℕ, ◌+◌, take, ◌&&◌, ◌||◌, Bool, true, false, cond, List, [], ◌∷◌, ◌++◌, map, slice_set, Some, None, refl, sym, ap, ◌∙◌, subst, eq-eqb}
-use Rattle.std.specs.Prelude.{unwrap_or}
+-- Which switches serve an edge switch.
+use Rattle.std.proofs.Common.{◌≡◌, ◌&&◌, ◌||◌, Bool, true, false, List, [], ◌∷◌, ◌++◌, refl, sym, ap, ◌∙◌, subst, eq-eqb}
 use Rattle.std.specs.List.{list_any}
 use Rattle.std.specs.Ordering.{is_eq}
 use Rattle.std.specs.Cmp.{Equal-is}
 use Rattle.std.specs.BTreeMap.{is_at}
 use Rattle.std.proofs.lemmas.Bool.{and_parts, false≢true}
 use Rattle.std.proofs.lemmas.Cmp.{tied_itself}
-use Rattle.std.proofs.lemmas.List.{set-set}
 use Rattle.std.proofs.lemmas.List.Folds.{list_any-append}
 use Rattle.pl_lemmas.proofs.Exports.{or_false}
 use Rattle.pl_frame.specs.declared.address.SwitchId.{SwitchId}
 use Rattle.pl_layouts.specs.Equality.{same_switch}
-use Rattle.pl_node.specs.ManagerViews.{Told, alive_neighbours, id_cmp, is_alive, is_told_usable, neighbours, value_at}
+use Rattle.pl_node.specs.ManagerViews.{Told, alive_neighbours, id_cmp, is_alive, is_told_usable, neighbours}
 use Rattle.pl_node.proofs.Exports.{among_filter, among_filtered, any_among, id_total, IsAmong, member_passes}
 use Rattle.pl_manager_rule.proofs.Exports.{id_exact, near_usable, same_is}
-use Rattle.pl_groups.specs.Serving.{row_in}
-
-abbrev pub Served : Type 0
-Served = List (SwitchId × List Bool)
 
 -- ---- a link that is alive was told by the other end
 pub alive_back : (told : Told) (a b : SwitchId) → is_alive told a b ≡ is_alive told b a
@@ -67,49 +61,3 @@ is_here x a = by (is_eq (id_cmp x a)) (same_switch a x) refl refl
 
 pub any_more : {X : Type 0} (p : X → Bool) (xs : List X) (x : X) → list_any p (xs ++ x ∷ []) ≡ (list_any p xs || p x)
 any_more p xs x = list_any-append p xs (x ∷ []) ∙ ap (λ b. list_any p xs || b) (sym (or_false (p x)))
-
--- what rows say once some of the neighbours of edge switch number i serve it
-abbrev pub served_so_far : Served → List SwitchId → ℕ → List SwitchId → SwitchId → List Bool
-served_so_far before needed i xs a =
-    cond (list_any (same_switch a) xs) (slice_set (row_in before needed a) i true) (row_in before needed a)
-
-again : (l : Bool) (i : ℕ) (row : List Bool) → slice_set (cond l (slice_set row i true) row) i true ≡ cond (l || true) (slice_set row i true) row
-again true i row = set-set row i true true
-again false i row = refl
-
-pub serve_next : (before old new : Served) (needed : List SwitchId) (i : ℕ) (items : List SwitchId) (j : ℕ) (x : SwitchId) →
-    take (j + 1) items ≡ take j items ++ x ∷ [] →
-    ((a : SwitchId) → row_in old needed a ≡ served_so_far before needed i (take j items) a) →
-    ((a : SwitchId) → row_in new needed a ≡ cond (is_at (id_cmp x) a) (slice_set (row_in old needed x) i true) (row_in old needed a)) →
-    (a : SwitchId) → row_in new needed a ≡ served_so_far before needed i (take (j + 1) items) a
-serve_next before old new needed i items j x more were says a =
-    says a ∙ ap (λ b. cond b (slice_set (row_in old needed x) i true) (row_in old needed a)) (is_here x a)
-    ∙ by (same_switch a x) refl
-    ∙ ap (λ b. cond b (slice_set (row_in before needed a) i true) (row_in before needed a))
-    (sym (ap (list_any (same_switch a)) more ∙ any_more (same_switch a) (take j items) x))
-  where
-    by : (b : Bool) → same_switch a x ≡ b → cond b (slice_set (row_in old needed x) i true) (row_in old needed a)
-        ≡ cond (list_any (same_switch a) (take j items) || b) (slice_set (row_in before needed a) i true) (row_in before needed a)
-    by true same =
-        ap (λ z. slice_set (row_in old needed z) i true) (sym (same_is a x same))
-        ∙ ap (λ row. slice_set row i true) (were a) ∙ again (list_any (same_switch a) (take j items)) i (row_in before needed a)
-    by false same = were a ∙ ap (λ b. cond b (slice_set (row_in before needed a) i true) (row_in before needed a)) (or_false (list_any (same_switch a) (take j items)))
-
--- all of its neighbours
-pub serve_all : (told : Told) (before new : Served) (needed : List SwitchId) (i : ℕ) (edge : SwitchId) →
-    ((a : SwitchId) → row_in new needed a ≡ served_so_far before needed i (alive_neighbours told edge) a) →
-    (a : SwitchId) → row_in new needed a ≡ cond (is_alive told a edge) (slice_set (row_in before needed a) i true) (row_in before needed a)
-serve_all told before new needed i edge says a =
-    says a ∙ ap (λ c. cond c (slice_set (row_in before needed a) i true) (row_in before needed a)) (served_by_neighbours told edge a)
-
--- ---- the table, with a row of its own for one more switch
-pub row_started : (served after : Served) (needed : List SwitchId) (s : SwitchId) (i : ℕ) (row : List Bool) (t : SwitchId) →
-    value_at id_cmp served s ≡ None → row ≡ slice_set (map (λ e. false) needed) i true →
-    value_at id_cmp after t ≡ cond (is_at (id_cmp s) t) (Some row) (value_at id_cmp served t) →
-    row_in after needed t ≡ cond (is_at (id_cmp s) t) (slice_set (row_in served needed s) i true) (row_in served needed t)
-row_started served after needed s i row t none one put = ap (λ o. unwrap_or o (map (λ e. false) needed)) put ∙ by (is_at (id_cmp s) t)
-  where
-    by : (b : Bool) → unwrap_or (cond b (Some row) (value_at id_cmp served t)) (map (λ e. false) needed)
-        ≡ cond b (slice_set (row_in served needed s) i true) (row_in served needed t)
-    by true = one ∙ ap (λ o. slice_set (unwrap_or o (map (λ e. false) needed)) i true) (sym none)
-    by false = refl

@@ -1,8 +1,10 @@
-pub mod Filled
+pub mod Marked
+pub mod Standing
 pub mod Edges
 pub mod Reached
 pub mod Rows
 pub mod Branches
+pub mod Placed
 pub mod Bare
 pub mod Rostered
 pub mod Forgotten

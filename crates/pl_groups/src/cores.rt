@@ -1,16 +1,17 @@
 ghost use Rattle.std.specs.Prelude.{◌≡◌, ◌==◌, [], ◌∷◌, ◌++◌, if◌then◌else◌, IfOk, IsTrue, OnOk, filter, map};
 ghost use Rattle.std.specs.Option.{option_copied};
 ghost use Rattle.pl_frame.specs.declared.address.SwitchId.{SwitchId};
-ghost use Rattle.pl_node.specs.ManagerViews.{alive_neighbours, has_level};
+ghost use Rattle.pl_node.specs.ManagerViews.{alive_neighbours, has_level, place_of};
 ghost use Rattle.pl_node.specs.Trees.{best_cores, core_for, core_reaches, cores, largest, reach, turn};
-ghost use Rattle.pl_groups.specs.Reaching.{IsReachOf, reach_at, reached_with, with_row};
-ghost use Rattle.pl_groups.specs.Serving.{AreServed};
+ghost use Rattle.pl_groups.specs.Reaching.{IsReachOf, reach_at, with_row};
+ghost use Rattle.pl_groups.specs.Serving.{all_places, all_served, served_at};
 
-use crate::needs::Served;
-use crate::place_tests::has_level;
+use crate::place_tests::is_on_level;
+use crate::positions::position;
+use crate::serving::row_in;
 use pl_bits::Row;
 use pl_frame::SwitchId;
-use pl_node::Memory;
+use pl_node::{Memory, Place};
 use pl_reports::Reports;
 use std::alloc::Global;
 
@@ -26,16 +27,18 @@ pub(crate) fn core_for(
     alloc: Global,
     reports: &Reports,
     group: u32,
+    places: &[Place],
     needed: &[SwitchId],
-    served: &Served,
+    served: &[Option<Row>],
 ) -> Result<Option<SwitchId>, Memory>
-    requires served { AreServed reports.now needed.now served.now.entries }
+    requires places { places.now ≡ all_places reports.now }
+    requires served { served.now ≡ all_served reports.now needed.now }
     ensures { IfOk result (λ core. core ≡ core_for reports.now group needed.now) }
 {
     if needed.is_empty() {
         return Ok(None);
     }
-    let reaches = reaches(alloc, reports, needed, served)?;
+    let reaches = reaches(alloc, reports, places, needed, served)?;
     let best = best_of(alloc, &reaches)?;
     Ok(turn(&best, group))
 }
@@ -44,37 +47,52 @@ pub(crate) fn core_for(
 fn reaches(
     alloc: Global,
     reports: &Reports,
+    places: &[Place],
     needed: &[SwitchId],
-    served: &Served,
+    served: &[Option<Row>],
 ) -> Result<Vec<CoreReach>, Memory>
-    requires served { AreServed reports.now needed.now served.now.entries }
+    requires places { places.now ≡ all_places reports.now }
+    requires served { served.now ≡ all_served reports.now needed.now }
     ensures { IfOk result (λ reaches. reaches.items ≡ map (reach_at reports.now needed.now) (cores reports.now)) }
 {
+    let switches = reports.switches();
     let mut reaches = Vec::new(alloc);
     let mut last = None;
-    for switch in reports.switches() {
-        last = rank(&mut reaches, alloc, reports, needed, served, *switch, last)?;
+    for i in 0..switches.len() {
+        let switch = switches[i];
+        last = rank(
+            &mut reaches,
+            alloc,
+            reports,
+            needed,
+            served,
+            switch,
+            places[i],
+            last,
+        )?;
     }
     Ok(reaches)
 }
 
-// One more switch, if it is a core switch. The answer is the last core switch.
+// One more switch, if its place is that of a core switch. The answer is the last core switch.
 fn rank(
     reaches: &mut Vec<CoreReach>,
     alloc: Global,
     reports: &Reports,
     needed: &[SwitchId],
-    served: &Served,
+    served: &[Option<Row>],
     switch: SwitchId,
+    place: Place,
     last: Option<CoreReach>,
 ) -> Result<Option<CoreReach>, Memory>
-    requires served { AreServed reports.now needed.now served.now.entries }
+    requires served { served.now ≡ all_served reports.now needed.now }
+    requires place { place ≡ place_of reports.now switch }
     requires last { IsReachOf reports.now needed.now last }
     ensures ranked { OnOk result (reaches.new.items
         ≡ (if has_level reports.now switch 2 then reaches.old.items ++ reach_at reports.now needed.now switch ∷ [] else reaches.old.items)) }
     ensures last { IfOk result (λ now. IsReachOf reports.now needed.now now) }
 {
-    if !has_level(reports, switch, 2) {
+    if !is_on_level(place, 2) {
         return Ok(last);
     }
     let reach = reach_after(alloc, reports, needed, served, switch, last)?;
@@ -87,11 +105,11 @@ fn reach_after(
     alloc: Global,
     reports: &Reports,
     needed: &[SwitchId],
-    served: &Served,
+    served: &[Option<Row>],
     core: SwitchId,
     last: Option<CoreReach>,
 ) -> Result<CoreReach, Memory>
-    requires served { AreServed reports.now needed.now served.now.entries }
+    requires served { served.now ≡ all_served reports.now needed.now }
     requires last { IsReachOf reports.now needed.now last }
     ensures { IfOk result (λ now. now ≡ reach_at reports.now needed.now core) }
 {
@@ -105,11 +123,11 @@ fn reach_beside(
     alloc: Global,
     reports: &Reports,
     needed: &[SwitchId],
-    served: &Served,
+    served: &[Option<Row>],
     core: SwitchId,
     before: CoreReach,
 ) -> Result<CoreReach, Memory>
-    requires served { AreServed reports.now needed.now served.now.entries }
+    requires served { served.now ≡ all_served reports.now needed.now }
     requires before { before.edges ≡ reach reports.now needed.now before.core }
     ensures { IfOk result (λ now. now ≡ reach_at reports.now needed.now core) }
 {
@@ -126,10 +144,10 @@ fn reach_anew(
     alloc: Global,
     reports: &Reports,
     needed: &[SwitchId],
-    served: &Served,
+    served: &[Option<Row>],
     core: SwitchId,
 ) -> Result<CoreReach, Memory>
-    requires served { AreServed reports.now needed.now served.now.entries }
+    requires served { served.now ≡ all_served reports.now needed.now }
     ensures { IfOk result (λ now. now ≡ reach_at reports.now needed.now core) }
 {
     let edges = reach(alloc, reports, needed, served, core)?;
@@ -154,10 +172,10 @@ fn reach(
     alloc: Global,
     reports: &Reports,
     needed: &[SwitchId],
-    served: &Served,
+    served: &[Option<Row>],
     core: SwitchId,
 ) -> Result<usize, Memory>
-    requires served { AreServed reports.now needed.now served.now.entries }
+    requires served { served.now ≡ all_served reports.now needed.now }
     ensures { IfOk result (λ edges. edges ≡ reach reports.now needed.now core) }
 {
     let reached = reached(alloc, reports, needed, served, core)?;
@@ -169,25 +187,46 @@ fn reached(
     alloc: Global,
     reports: &Reports,
     needed: &[SwitchId],
-    served: &Served,
+    served: &[Option<Row>],
     core: SwitchId,
 ) -> Result<Row, Memory>
-    requires served { AreServed reports.now needed.now served.now.entries }
+    requires served { served.now ≡ all_served reports.now needed.now }
     ensures { IfOk result (λ reached. reached ≡ map (core_reaches reports.now core) needed.now) }
 {
     let mut reached = Row::new(alloc, needed.len())?;
+    let mut last = 0;
+    let mut near = 0;
     for switch in reports.alive_neighbours(core) {
-        reach_by(&mut reached, reports, served, *switch);
+        let at = reach_by(&mut reached, reports, needed, served, near, *switch);
+        near = one_further(last, at);
+        last = at;
     }
     Ok(reached)
 }
 
-// With what a neighbour serves, if it is one of these.
-fn reach_by(reached: &mut Row, reports: &Reports, served: &Served, neighbour: SwitchId)
-    ensures { reached.new ≡ reached_with reports.now served.now.entries reached.old neighbour }
+// Where the next neighbour of a core switch may stand: there is one in each pod.
+fn one_further(last: usize, at: usize) -> usize {
+    at.saturating_add(at.saturating_sub(last))
+}
+
+// With what a neighbour serves, if it is one of these. Answers where it stands.
+fn reach_by(
+    reached: &mut Row,
+    reports: &Reports,
+    needed: &[SwitchId],
+    served: &[Option<Row>],
+    near: usize,
+    neighbour: SwitchId,
+) -> usize
+    requires { served.now ≡ all_served reports.now needed.now }
+    ensures { reached.new ≡ with_row reached.old (served_at reports.now needed.now neighbour) }
 {
-    if has_level(reports, neighbour, 1) {
-        add_row(reached, served.get(&neighbour));
+    match position(reports.switches(), near, neighbour) {
+        Some(at) => {
+            add_row(reached, row_in(served, at));
+            at
+        }
+        None => near,
     }
 }
 

@@ -2,8 +2,8 @@
 //!
 //! `Groups` keeps which edge switches have members, and for each group its tree as it was last made. A
 //! tree is made anew from what the switches told of their places and links; the tree of one group is a
-//! pass over the links of the edge and the core switches, and no loop over core, aggregation and edge
-//! switches together. Whom the manager tells of a change is left to the crates above.
+//! pass over the links of the aggregation and the core switches, and no loop over core, aggregation and
+//! edge switches together. Whom the manager tells of a change is left to the crates above.
 #![tactic(auto)]
 
 pub use groups::Groups;
@@ -13,6 +13,8 @@ mod groups;
 mod needs;
 mod parts;
 mod place_tests;
+mod positions;
 mod root;
 mod roster;
+mod serving;
 mod tree;

@@ -1,4 +1,4 @@
-ghost use Rattle.std.specs.Prelude.{◌≡◌, ◌==◌, ◌&&◌, IfOk, find, not, option_map};
+ghost use Rattle.std.specs.Prelude.{◌≡◌, ◌==◌, ◌&&◌, IfOk, filter, find, not, option_map, true};
 ghost use Rattle.std.specs.BTreeMap.{is_at};
 ghost use Rattle.std.specs.Cmp.Lexicographic.{pointwise};
 ghost use Rattle.std.specs.List.{list_any};
@@ -7,15 +7,17 @@ ghost use Rattle.std.specs.Option.{option_copied};
 ghost use Rattle.pl_frame.specs.declared.address.SwitchId.{SwitchId};
 ghost use Rattle.pl_layouts.specs.Equality.{same_switch};
 ghost use Rattle.pl_layouts.specs.Placement.{is_known};
-ghost use Rattle.pl_node.specs.ManagerViews.{alive_at_level, edge_at, has_level, has_pod, id_cmp, is_alive, value_at};
+ghost use Rattle.pl_node.specs.ManagerViews.{alive_at_level, edge_at, has_level, has_pod, id_cmp, is_alive, place_of};
 ghost use Rattle.pl_node.specs.Trees.{aggregation_part, core_part, edge_part, part_under};
 ghost use Rattle.pl_manager_rule.specs.ManagerRule.{same_part, same_up};
 ghost use Rattle.pl_groups.specs.Rooted.{IsRoot};
-ghost use Rattle.pl_groups.specs.Serving.{AreServed, many_served};
+ghost use Rattle.pl_groups.specs.Serving.{all_served, many_served, served_at};
 
-use crate::needs::{Served, add_if, edges_of, many_served};
+use crate::needs::{add_if, edges_in};
 use crate::place_tests::{is_adjacent, is_of_pod, is_on_level};
 use crate::root::{Root, is_linked};
+use crate::serving::{many_served, row_for};
+use pl_bits::Row;
 use pl_frame::SwitchId;
 use pl_node::{Memory, Place, SwitchList, TreePart};
 use pl_reports::Reports;
@@ -26,19 +28,20 @@ pub(crate) fn part_under(
     alloc: Global,
     reports: &Reports,
     needed: &[SwitchId],
-    served: &Served,
+    served: &[Option<Row>],
     root: &Root,
     switch: SwitchId,
+    place: Place,
 ) -> Result<Option<TreePart>, Memory>
     requires rising { IsStrictlySortedBy id_cmp needed.now }
-    requires served { AreServed reports.now needed.now served.now.entries }
+    requires served { served.now ≡ all_served reports.now needed.now }
     requires root { IsRoot reports.now root.now }
+    requires place { place ≡ place_of reports.now switch }
     ensures { IfOk result (λ part. part ≡ part_under reports.now needed.now switch root.now.core) }
 {
     if switch == root.core {
         return Ok(Some(core_part(alloc, reports, needed, served, root.core)?));
     }
-    let place = reports.place_of(switch);
     if is_under(root, switch, place) {
         let part = aggregation_part(alloc, reports, needed, served, root.core, switch)?;
         return Ok(Some(part));
@@ -58,26 +61,33 @@ fn core_part(
     alloc: Global,
     reports: &Reports,
     needed: &[SwitchId],
-    served: &Served,
+    served: &[Option<Row>],
     core: SwitchId,
 ) -> Result<TreePart, Memory>
-    requires served { AreServed reports.now needed.now served.now.entries }
+    requires served { served.now ≡ all_served reports.now needed.now }
     ensures { IfOk result (λ part. part ≡ core_part reports.now needed.now core) }
 {
     let mut down = SwitchList::new(alloc);
     for switch in reports.neighbours(core) {
-        let passes = is_below(reports, served, core, *switch);
+        let passes = is_below(reports, needed, served, core, *switch);
         add_if(&mut down, *switch, passes)?;
     }
     Ok(TreePart { up: None, down })
 }
 
 // Whether a neighbour of the core switch is one of these.
-fn is_below(reports: &Reports, served: &Served, core: SwitchId, neighbour: SwitchId) -> bool
+fn is_below(
+    reports: &Reports,
+    needed: &[SwitchId],
+    served: &[Option<Row>],
+    core: SwitchId,
+    neighbour: SwitchId,
+) -> bool
+    requires { served.now ≡ all_served reports.now needed.now }
     ensures { result ≡ ((is_alive reports.now core neighbour && has_level reports.now neighbour 1)
-        && not (many_served (value_at id_cmp served.now.entries neighbour) == 0)) }
+        && not (many_served (served_at reports.now needed.now neighbour) == 0)) }
 {
-    is_adjacent(reports, core, neighbour) && many_served(served, neighbour) != 0
+    is_adjacent(reports, core, neighbour) && many_served(reports, needed, served, neighbour) != 0
 }
 
 // An aggregation switch sends up to the core switch, and down to the edge switches that it serves.
@@ -85,19 +95,39 @@ fn aggregation_part(
     alloc: Global,
     reports: &Reports,
     needed: &[SwitchId],
-    served: &Served,
+    served: &[Option<Row>],
     core: SwitchId,
     switch: SwitchId,
 ) -> Result<TreePart, Memory>
     requires rising { IsStrictlySortedBy id_cmp needed.now }
-    requires served { AreServed reports.now needed.now served.now.entries }
+    requires served { served.now ≡ all_served reports.now needed.now }
+    requires level { has_level reports.now switch 1 ≡ true }
     ensures { IfOk result (λ part. part ≡ aggregation_part reports.now needed.now core switch) }
 {
-    let down = edges_of(alloc, needed, served, switch)?;
+    let down = edges_of(alloc, reports, needed, served, switch)?;
     Ok(TreePart {
         up: Some(core),
         down,
     })
+}
+
+// The needed edge switches that an aggregation switch serves.
+fn edges_of(
+    alloc: Global,
+    reports: &Reports,
+    needed: &[SwitchId],
+    served: &[Option<Row>],
+    switch: SwitchId,
+) -> Result<SwitchList, Memory>
+    requires rising { IsStrictlySortedBy id_cmp needed.now }
+    requires served { served.now ≡ all_served reports.now needed.now }
+    requires level { has_level reports.now switch 1 ≡ true }
+    ensures { IfOk result (λ edges. edges ≡ filter (is_alive reports.now switch) needed.now) }
+{
+    match row_for(reports, needed, served, switch) {
+        Some(row) => edges_in(alloc, needed, row),
+        None => Ok(SwitchList::new(alloc)),
+    }
 }
 
 // A placed edge switch sends up to the first aggregation switch of its pod that is linked to the core switch.

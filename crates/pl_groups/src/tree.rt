@@ -7,15 +7,16 @@ ghost use Rattle.pl_layouts.specs.Equality.{same_switch};
 ghost use Rattle.pl_node.specs.ManagerViews.{id_cmp, switches, value_at};
 ghost use Rattle.pl_node.specs.Trees.{core_for, part_under};
 ghost use Rattle.pl_groups.specs.Kept.{part_in_tree};
-ghost use Rattle.pl_groups.specs.Serving.{AreServed, part_of_told};
+ghost use Rattle.pl_groups.specs.Serving.{all_places, all_served, part_of_told};
 ghost use Rattle.pl_groups.specs.declared.tree.Tree.{Tree};
 
 use crate::cores::core_for;
-use crate::needs::{Served, served_edges};
 use crate::parts::part_under;
 use crate::root::root_at;
+use crate::serving::{places_of, served_edges};
+use pl_bits::Row;
 use pl_frame::SwitchId;
-use pl_node::{Memory, TreePart};
+use pl_node::{Memory, Place, TreePart};
 use pl_reports::Reports;
 use std::alloc::Global;
 use std::collections::BTreeMap;
@@ -41,9 +42,10 @@ pub(crate) fn make_tree(
     ensures core { IfOk result (λ tree. tree.core ≡ core_for reports.now group needed.now) }
     ensures parts { IfOk result (λ tree. (s : SwitchId) → value_at id_cmp tree.parts.entries s ≡ part_of_told reports.now needed.now s tree.core) }
 {
-    let served = served_edges(alloc, reports, needed)?;
-    let core = core_for(alloc, reports, group, needed, &served)?;
-    let parts = parts_of(alloc, reports, needed, &served, core)?;
+    let places = places_of(alloc, reports)?;
+    let served = served_edges(alloc, reports, &places, needed)?;
+    let core = core_for(alloc, reports, group, &places, needed, &served)?;
+    let parts = parts_of(alloc, reports, &places, needed, &served, core)?;
     Ok(Tree { core, parts })
 }
 
@@ -78,16 +80,18 @@ fn has_no_core(tree: Option<&Tree>) -> bool
 fn parts_of(
     alloc: Global,
     reports: &Reports,
+    places: &[Place],
     needed: &[SwitchId],
-    served: &Served,
+    served: &[Option<Row>],
     core: Option<SwitchId>,
 ) -> Result<Parts, Memory>
+    requires places { places.now ≡ all_places reports.now }
     requires rising { IsStrictlySortedBy id_cmp needed.now }
-    requires served { AreServed reports.now needed.now served.now.entries }
+    requires served { served.now ≡ all_served reports.now needed.now }
     ensures { IfOk result (λ parts. (s : SwitchId) → value_at id_cmp parts.entries s ≡ part_of_told reports.now needed.now s core) }
 {
     match core {
-        Some(core) => parts_under(alloc, reports, needed, served, core),
+        Some(core) => parts_under(alloc, reports, places, needed, served, core),
         None => Ok(BTreeMap::new(alloc)),
     }
 }
@@ -96,20 +100,24 @@ fn parts_of(
 fn parts_under(
     alloc: Global,
     reports: &Reports,
+    places: &[Place],
     needed: &[SwitchId],
-    served: &Served,
+    served: &[Option<Row>],
     core: SwitchId,
 ) -> Result<Parts, Memory>
+    requires places { places.now ≡ all_places reports.now }
     requires rising { IsStrictlySortedBy id_cmp needed.now }
-    requires served { AreServed reports.now needed.now served.now.entries }
+    requires served { served.now ≡ all_served reports.now needed.now }
     ensures { IfOk result (λ parts. (s : SwitchId) → value_at id_cmp parts.entries s
         ≡ (if list_any (same_switch s) (switches reports.now) then part_under reports.now needed.now s core else None)) }
 {
     let root = root_at(alloc, reports, core)?;
+    let switches = reports.switches();
     let mut parts = BTreeMap::new(alloc);
-    for switch in reports.switches() {
-        let part = part_under(alloc, reports, needed, served, &root, *switch)?;
-        keep_part(&mut parts, *switch, part)?;
+    for i in 0..switches.len() {
+        let switch = switches[i];
+        let part = part_under(alloc, reports, needed, served, &root, switch, places[i])?;
+        keep_part(&mut parts, switch, part)?;
     }
     Ok(parts)
 }

@@ -10,8 +10,8 @@ loop-switch-init c = c.in_ok-reached.ensures ∙ splat_is_map c.args.needed.now 
 
 pub loop-switch-preserved : goal.loop-switch-preserved
 loop-switch-preserved c =
-    reached_next c.args.reports.now c.args.needed.now c.args.served.now.entries c.requires.served c.alive_neighbours-switch-items.result.now
-    c.loop-switch.switch-index _ c.loop-switch.reached c.reach_by.new.reached (grind (arith, common_steps)) c.loop-switch.invariant c.reach_by.ensures
+    reached_next c.args.reports.now c.args.needed.now c.alive_neighbours-switch-items.result.now c.loop-switch.switch-index _
+    c.loop-switch.reached c.reach_by-at.new.reached (grind (arith, common_steps)) c.loop-switch.invariant c.reach_by-at.ensures
 
 pub returns : goal.returns
 returns c =

@@ -1,20 +1,21 @@
-use Rattle.std.proofs.Common.{◌∙◌, arith, ap, filter, map, take_all}
-use Rattle.std.proofs.lemmas.Grind.{common_steps}
+use Rattle.std.proofs.Common.{◌<◌, arith, length}
 use Rattle.pl_frame.specs.declared.address.SwitchId.{SwitchId}
-use Rattle.pl_node.specs.ManagerViews.{has_level}
-use Rattle.pl_groups.specs.Reaching.{reach_at}
+use Rattle.pl_node.specs.ManagerViews.{switches}
+use Rattle.pl_groups.proofs.Placed.{place_is, taken_next}
 use Rattle.pl_groups.proofs.Reached.{ranked_next}
 use Rattle.pl_groups.proofs.cores.reaches.Goals as goal
 
-pub loop-switch-preserved : goal.loop-switch-preserved
-loop-switch-preserved c = (
-  ranked_next c.args.reports.now c.args.needed.now c.switches-switch-items.result.now c.loop-switch.switch-index _
-      c.loop-switch.reaches.items c.rank.new.reaches.items (grind (arith, common_steps)) c.loop-switch.invariant.0 c.in_ok-last.ensures.ranked,
-  c.in_ok-last.ensures.last,
-)
+pub rank-requires-clause-place : goal.rank-requires-clause-place
+rank-requires-clause-place c =
+    let ss = c.switches-switches.result.now in let d : SwitchId = record { 0 = 0 } in
+    let within : c.loop-i.i < length ss = omega arith in
+    place_is c.args.reports.now c.args.places.now ss c.loop-i.i _ d c.requires.places c.switches-switches.ensures within
 
-pub returns : goal.returns
-returns c =
-    c.loop-switch.invariant.0
-    ∙ ap (λ ss. map (reach_at c.args.reports.now c.args.needed.now) (filter (λ (x : SwitchId). has_level c.args.reports.now x 2) ss))
-    (take_all c.loop-switch.switch-index c.switches-switch-items.result.now c.loop-switch-test.false ∙ c.switches-switch-items.ensures)
+pub loop-i-preserved : goal.loop-i-preserved
+loop-i-preserved c =
+    let told = c.args.reports.now in let ss = c.switches-switches.result.now in let d : SwitchId = record { 0 = 0 } in
+    let within : c.loop-i.i < length ss = omega arith in (
+      ranked_next told c.args.needed.now (switches told) c.loop-i.i _ c.loop-i.reaches.items c.rank.new.reaches.items
+          (taken_next told ss c.loop-i.i d c.switches-switches.ensures within) c.loop-i.invariant.0 c.in_ok-last.ensures.ranked,
+      c.in_ok-last.ensures.last,
+    )

@@ -7,3 +7,4 @@ pub mod Appended
 pub mod Turns
 pub mod Names
 pub mod Fitting
+pub mod Exports

@@ -34,7 +34,7 @@ no_journal out h same =
     let letter : 46 ≡ 108 = ap (λ l. slice_index_or l 0 0) rest in
     absurd (omega (arith, letter))
 
-no_output : (out file : List ℕ) → 0 < length file → in_folder out file ≢ standard_output
+pub no_output : (out file : List ℕ) → 0 < length file → in_folder out file ≢ standard_output
 no_output out file some same =
     let long : length (in_folder out file) ≡ length (out ++ codes "/") + length file = length-append (out ++ codes "/") file in
     let longer : length (out ++ codes "/") ≡ length out + 1 = length-append out (codes "/") in

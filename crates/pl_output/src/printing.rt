@@ -2,6 +2,7 @@ ghost use Rattle.std.specs.Prelude.{◌≡◌, ◌⊎◌, ◌++◌, All, OnOk, O
 ghost use Rattle.pl_shelf.specs.Held.{Same, Changes, IsCutOff, created, with_end};
 ghost use Rattle.pl_shelf.specs.Capacity.{FitsBehind, IsFull};
 ghost use Rattle.pl_shelf.specs.Faults.{CountsWrites};
+ghost use Rattle.pl_journal.specs.Ranges.{Fits};
 ghost use Rattle.pl_journal.specs.Text.{IsNamed, journal_text, parted, texts};
 ghost use Rattle.pl_output.specs.Printed.{BreaksOff, IsPrinted};
 
@@ -31,6 +32,7 @@ pub fn save_journal<S: Shelf>(
     ensures err { OnErr result (Same (S.moment shelf.old).held (S.moment shelf.new).held
         ⊎ IsCutOff (S.moment shelf.old).held (S.moment shelf.new).held name.now
         (created name.now ((S.moment shelf.old).held name.now)) (journal_text wiring.now journal.now)) }
+    ensures fits { OnOk result (All Fits journal.now) }
     ensures faults { CountsWrites result (S.moment shelf.old) (S.moment shelf.new) }
     ensures capacity { S.capacity shelf.new ≡ S.capacity shelf.old }
     ensures unfit { OnErr result (FitsBehind (S.capacity shelf.old name.now)
@@ -53,6 +55,7 @@ fn append_entries<S: Shelf>(
         (with_end ((S.moment shelf.old).held name.now) (journal_text wiring.now entries.now))) }
     ensures err { OnErr result (IsCutOff (S.moment shelf.old).held (S.moment shelf.new).held name.now
         ((S.moment shelf.old).held name.now) (journal_text wiring.now entries.now)) }
+    ensures fits { OnOk result (All Fits entries.now) }
     ensures faults { CountsWrites result (S.moment shelf.old) (S.moment shelf.new) }
     ensures capacity { S.capacity shelf.new ≡ S.capacity shelf.old }
     ensures full { OnErr result (IsFull (S.capacity shelf.new name.now) ((S.moment shelf.new).held name.now)) }
@@ -74,6 +77,7 @@ fn print_entries<S: Shelf>(
         piece.old piece.new (journal_text wiring.now entries.now)) }
     ensures err { OnErr result (BreaksOff (S.moment shelf.old).held (S.moment shelf.new).held name.now
         piece.old (journal_text wiring.now entries.now)) }
+    ensures fits { OnOk result (All Fits entries.now) }
     ensures faults { CountsWrites result (S.moment shelf.old) (S.moment shelf.new) }
     ensures capacity { S.capacity shelf.new ≡ S.capacity shelf.old }
     ensures full { OnErr result (IsFull (S.capacity shelf.new name.now) ((S.moment shelf.new).held name.now)) }

@@ -1,6 +1,7 @@
 ghost use Rattle.std.specs.Prelude.{◌≡◌, ℕ, List, [], ◌∷◌, All, IfErr, OnOk, OnErr, string_bytes};
 ghost use Rattle.pl_shelf.specs.Faults.{CountsWrites};
 ghost use Rattle.pl_shelf.specs.Held.{standard_output};
+ghost use Rattle.pl_journal.specs.Ranges.{Fits};
 ghost use Rattle.pl_journal.specs.Text.{IsNamed, journal_text};
 ghost use Rattle.pl_output.specs.InTurn.{BreaksInTurn, BreaksOne, SavedInTurn, SavesOne};
 ghost use Rattle.pl_output.specs.Receipts.{saved_texts};
@@ -23,7 +24,8 @@ mod receiving;
 mod texts;
 
 /// Saves the texts of a run: each host's capture in the order of the hosts, the journal, and the
-/// summary on standard output. Takes no memory, and answers the name at which a write failed.
+/// summary on standard output. Takes no memory, and answers the name at which a write failed. Where all
+/// is saved, each entry of the journal was printed, and so is one that its types can hold.
 pub fn save_all<S: Shelf>(
     shelf: &mut S,
     wiring: &Wiring,
@@ -38,6 +40,7 @@ pub fn save_all<S: Shelf>(
     ensures err { (out : List ℕ) → AreTexts out wiring.now journal.now texts →
         IfErr result (λ name. BreaksOff (S.moment shelf.old).held (S.moment shelf.new).held
         (saved_texts out wiring.now journal.now (string_bytes texts.summary)) name) }
+    ensures fits { OnOk result (All Fits journal.now) }
     ensures faults { CountsWrites result (S.moment shelf.old) (S.moment shelf.new) }
     ensures capacity { S.capacity shelf.new ≡ S.capacity shelf.old }
     ensures unfit { (out : List ℕ) → AreTexts out wiring.now journal.now texts →
@@ -62,6 +65,7 @@ fn save_in_turn<S: Shelf>(
     ensures err { IfErr result (λ name.
         BreaksInTurn (S.moment shelf.old).held (savings_of wiring.now journal.now texts) name
         (S.moment shelf.new).held) }
+    ensures fits { OnOk result (All Fits journal.now) }
     ensures faults { CountsWrites result (S.moment shelf.old) (S.moment shelf.new) }
     ensures capacity { S.capacity shelf.new ≡ S.capacity shelf.old }
     ensures unfit { OnErr result (HaveRoomInTurn (S.capacity shelf.old) (S.moment shelf.old).held
@@ -93,6 +97,7 @@ fn save_entries<S: Shelf>(
     ensures named { IfErr result (λ told. name ≡ told) }
     ensures err { OnErr result (BreaksOne (S.moment shelf.old).held (S.moment shelf.new).held
         (record { name = name; text = journal_text wiring.now journal.now })) }
+    ensures fits { OnOk result (All Fits journal.now) }
     ensures faults { CountsWrites result (S.moment shelf.old) (S.moment shelf.new) }
     ensures capacity { S.capacity shelf.new ≡ S.capacity shelf.old }
     ensures unfit { OnErr result (HasRoom (S.capacity shelf.old) (S.moment shelf.old).held

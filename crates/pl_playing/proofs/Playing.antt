@@ -30,7 +30,8 @@ use Rattle.pl_output.specs.Summary.{summary_text}
 use Rattle.pl_inputs.specs.declared.status.Status.TheVariants as status
 use Rattle.pl_world.specs.declared.error.StepError.TheVariants as error
 use Rattle.pl_playing.specs.Networks.{PlaysTo}
-use Rattle.pl_playing.specs.Outcomes.{Comes, Course, EndsSaving, IsPlayed, IsStopped, Play, SavingFails, Saves, outcome, printed_of, records_of, rests_from, run_limits, summary_of, texts_of}
+use Rattle.pl_journal.specs.Ranges.{Fits}
+use Rattle.pl_playing.specs.Outcomes.{Comes, Course, EndsSaving, IsPlayed, IsStopped, Play, SavingFails, Saves, fits_of, nothing_of, outcome, printed_of, records_of, rests_from, run_limits, summary_of, texts_of}
 use Rattle.pl_playing.specs.Plays.{IsPlayedOver, IsPlayedTo, IsUnplayed, Played, printed_by, summary_by, texts_by}
 use Rattle.pl_playing.proofs.Remaining.{records_are}
 
@@ -131,31 +132,34 @@ module _ (play : Play) (i : Inputs) (p : Played) (to : IsPlayedTo play i p) (set
   printed_is = ap (λ (text : List ℕ). let first : Saving = record { name = standard_output; text = text } in first ∷ []) summary_as
 
 -- What comes of what was played, once its texts were saved, or a write failed.
-comes_so : (play : Play) (old new : ShelfMoment) (i : Inputs) (texts : IsPlayed play i → List Saving) (is : IsPlayed play i) (savings : List Saving) → savings ≡ texts is →
-    (e : Status) → EndsSaving old new savings e → Comes play old new i texts e
-comes_so play old new i texts is savings are status.Done ends = (is, subst (λ s. Saves old new s) are ends)
-comes_so play old new i texts is savings are (status.WriteFault name) ends = (is, subst (λ s. SavingFails old new s name) are ends)
-comes_so play old new i texts is savings are status.OutOfMemory ends = ends
-comes_so play old new i texts is savings are status.Usage ends = absurd ends
-comes_so play old new i texts is savings are (status.NotLegal entry) ends = absurd ends
-comes_so play old new i texts is savings are (status.BadJournal line) ends = absurd ends
-comes_so play old new i texts is savings are (status.ReadFault name) ends = absurd ends
-comes_so play old new i texts is savings are (status.TooLong name) ends = absurd ends
-comes_so play old new i texts is savings are (status.BadTopology reason) ends = absurd ends
-comes_so play old new i texts is savings are (status.BadScript line reason) ends = absurd ends
-comes_so play old new i texts is savings are (status.BadCapture host e at) ends = absurd ends
-comes_so play old new i texts is savings are (status.BadSection host e) ends = absurd ends
-comes_so play old new i texts is savings are (status.ExpectFailed line) ends = absurd ends
-comes_so play old new i texts is savings are (status.Refused line reason) ends = absurd ends
-comes_so play old new i texts is savings are (status.StepsSpent line) ends = absurd ends
-comes_so play old new i texts is savings are (status.JournalFull line) ends = absurd ends
+comes_so : (play : Play) (old new : ShelfMoment) (i : Inputs) (known : IsPlayed play i → Type 0) (texts : IsPlayed play i → List Saving) (is : IsPlayed play i)
+    (savings : List Saving) → savings ≡ texts is → (e : Status) → (e ≡ status.Done → known is) → EndsSaving old new savings e → Comes play old new i known texts e
+comes_so play old new i known texts is savings are status.Done then ends = (is, subst (λ s. Saves old new s) are ends, then refl)
+comes_so play old new i known texts is savings are (status.WriteFault name) then ends = (is, subst (λ s. SavingFails old new s name) are ends)
+comes_so play old new i known texts is savings are status.OutOfMemory then ends = ends
+comes_so play old new i known texts is savings are status.Usage then ends = absurd ends
+comes_so play old new i known texts is savings are (status.NotLegal entry) then ends = absurd ends
+comes_so play old new i known texts is savings are (status.BadJournal line) then ends = absurd ends
+comes_so play old new i known texts is savings are (status.ReadFault name) then ends = absurd ends
+comes_so play old new i known texts is savings are (status.TooLong name) then ends = absurd ends
+comes_so play old new i known texts is savings are (status.BadTopology reason) then ends = absurd ends
+comes_so play old new i known texts is savings are (status.BadScript line reason) then ends = absurd ends
+comes_so play old new i known texts is savings are (status.BadCapture host e at) then ends = absurd ends
+comes_so play old new i known texts is savings are (status.BadSection host e) then ends = absurd ends
+comes_so play old new i known texts is savings are (status.ExpectFailed line) then ends = absurd ends
+comes_so play old new i known texts is savings are (status.Refused line reason) then ends = absurd ends
+comes_so play old new i known texts is savings are (status.StepsSpent line) then ends = absurd ends
+comes_so play old new i known texts is savings are (status.JournalFull line) then ends = absurd ends
 
 pub saved_comes : (play : Play) (old new : ShelfMoment) (i : Inputs) (p : Played) (to : IsPlayedTo play i p) (settled : Bool) → IsTrue settled ↔ play.rests p.fabric.world →
-    (out : List ℕ) (e : Status) → EndsSaving old new (texts_by out p settled) e → Comes play old new i (texts_of play out i) e
-saved_comes play old new i p to settled is out e ends =
-    comes_so play old new i (texts_of play out i) (is_played play i p to settled is) (texts_by out p settled) (texts_are play i p to settled out) e ends
+    (out : List ℕ) (e : Status) → (e ≡ status.Done → All Fits p.fabric.world.journal) → EndsSaving old new (texts_by out p settled) e →
+    Comes play old new i (fits_of play i) (texts_of play out i) e
+saved_comes play old new i p to settled is out e fit ends =
+    comes_so play old new i (fits_of play i) (texts_of play out i) (is_played play i p to settled is) (texts_by out p settled) (texts_are play i p to settled out) e
+    (λ done. record { savable = subst (λ (plan : Plan). All (IsSavable plan) p.fabric.world.journal) to.plan to.savable; fits = fit done }) ends
 
 pub printed_comes : (play : Play) (old new : ShelfMoment) (i : Inputs) (p : Played) (to : IsPlayedTo play i p) (settled : Bool) → IsTrue settled ↔ play.rests p.fabric.world →
-    (e : Status) → EndsSaving old new (printed_by p settled) e → Comes play old new i (printed_of play i) e
+    (e : Status) → EndsSaving old new (printed_by p settled) e → Comes play old new i (nothing_of play i) (printed_of play i) e
 printed_comes play old new i p to settled is e ends =
-    comes_so play old new i (printed_of play i) (is_played play i p to settled is) (printed_by p settled) (printed_is play i p to settled) e ends
+    comes_so play old new i (nothing_of play i) (printed_of play i) (is_played play i p to settled is) (printed_by p settled) (printed_is play i p to settled) e
+    (λ done. tt) ends

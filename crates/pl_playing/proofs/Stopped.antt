@@ -38,20 +38,21 @@ no_stop leads i e other s = not_both (is_of_stop e) other (ap is_of_stop s.answe
 
 module _ (play : Play) where
   -- a script that was not played to its end
-  pub unplayed_comes : (old new : ShelfMoment) → IsUntouched old new → (i : Inputs) (texts : IsPlayed play i → List Saving) (e : Status) → IsUnplayed play.leads i e → Comes play old new i texts e
-  unplayed_comes old new stays i texts status.Done u = absurd (no_stop play.leads i status.Done refl u)
-  unplayed_comes old new stays i texts (status.WriteFault name) u = absurd (no_stop play.leads i (status.WriteFault name) refl u)
-  unplayed_comes old new stays i texts status.OutOfMemory u = stays
-  unplayed_comes old new stays i texts status.Usage u = (u, stays)
-  unplayed_comes old new stays i texts (status.NotLegal entry) u = (u, stays)
-  unplayed_comes old new stays i texts (status.BadJournal line) u = (u, stays)
-  unplayed_comes old new stays i texts (status.ReadFault name) u = (u, stays)
-  unplayed_comes old new stays i texts (status.TooLong name) u = (u, stays)
-  unplayed_comes old new stays i texts (status.BadTopology reason) u = (u, stays)
-  unplayed_comes old new stays i texts (status.BadScript line reason) u = (u, stays)
-  unplayed_comes old new stays i texts (status.BadCapture host e at) u = (u, stays)
-  unplayed_comes old new stays i texts (status.BadSection host e) u = (u, stays)
-  unplayed_comes old new stays i texts (status.ExpectFailed line) u = (u, stays)
-  unplayed_comes old new stays i texts (status.Refused line reason) u = (u, stays)
-  unplayed_comes old new stays i texts (status.StepsSpent line) u = (u, stays)
-  unplayed_comes old new stays i texts (status.JournalFull line) u = (u, stays)
+  pub unplayed_comes : (old new : ShelfMoment) → IsUntouched old new → (i : Inputs) (known : IsPlayed play i → Type 0)
+      (texts : IsPlayed play i → List Saving) (e : Status) → IsUnplayed play.leads i e → Comes play old new i known texts e
+  unplayed_comes old new stays i known texts status.Done u = absurd (no_stop play.leads i status.Done refl u)
+  unplayed_comes old new stays i known texts (status.WriteFault name) u = absurd (no_stop play.leads i (status.WriteFault name) refl u)
+  unplayed_comes old new stays i known texts status.OutOfMemory u = stays
+  unplayed_comes old new stays i known texts status.Usage u = (u, stays)
+  unplayed_comes old new stays i known texts (status.NotLegal entry) u = (u, stays)
+  unplayed_comes old new stays i known texts (status.BadJournal line) u = (u, stays)
+  unplayed_comes old new stays i known texts (status.ReadFault name) u = (u, stays)
+  unplayed_comes old new stays i known texts (status.TooLong name) u = (u, stays)
+  unplayed_comes old new stays i known texts (status.BadTopology reason) u = (u, stays)
+  unplayed_comes old new stays i known texts (status.BadScript line reason) u = (u, stays)
+  unplayed_comes old new stays i known texts (status.BadCapture host e at) u = (u, stays)
+  unplayed_comes old new stays i known texts (status.BadSection host e) u = (u, stays)
+  unplayed_comes old new stays i known texts (status.ExpectFailed line) u = (u, stays)
+  unplayed_comes old new stays i known texts (status.Refused line reason) u = (u, stays)
+  unplayed_comes old new stays i known texts (status.StepsSpent line) u = (u, stays)
+  unplayed_comes old new stays i known texts (status.JournalFull line) u = (u, stays)

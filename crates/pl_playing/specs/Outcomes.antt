@@ -1,11 +1,15 @@
 -- What comes of inputs that are played.
-use Rattle.std.specs.Prelude.{◌≡◌, ◌≤◌, ◌↔◌, ℕ, suc, ◌-◌, Bool, IsTrue, List, [], ◌∷◌, length, map, slice_get, Option, None, Some}
+use Rattle.std.specs.Prelude.{All, ◌≡◌, ◌≤◌, ◌↔◌, ℕ, suc, ◌-◌, Bool, IsTrue, List, [], ◌∷◌, length, map, slice_get, Option, None, Some}
 use Rattle.std.specs.Option.{option_map_or}
 use Rattle.pl_shelf.specs.Held.{Held, Same, ShelfMoment, standard_output}
 use Rattle.pl_shelf.specs.Faults.{Rose}
 use Rattle.pl_inputs.specs.declared.status.Status.{Status}
 use Rattle.pl_inputs.specs.Inputs.{Inputs}
 use Rattle.pl_inputs.specs.Records.{Recorded, records_in_file, tail_of_file}
+use Rattle.pl_wiring.specs.Plan.{Plan}
+use Rattle.pl_journal.specs.declared.entry.Entry.{Entry}
+use Rattle.pl_journal.specs.Ranges.{Fits}
+use Rattle.pl_journal.specs.Savable.{IsSavable}
 use Rattle.pl_node.specs.HostViews.{held_count}
 use Rattle.pl_world.specs.declared.error.StepError.{StepError}
 use Rattle.pl_world.specs.declared.limits.Limits.{Limits}
@@ -20,6 +24,11 @@ use Rattle.pl_output.specs.Summary.{summary_text}
 use Rattle.pl_inputs.specs.declared.status.Status.TheVariants as status
 use Rattle.pl_inputs.specs.declared.step.StepReason.TheVariants as step
 use Rattle.pl_world.specs.declared.error.StepError.TheVariants as error
+
+-- each entry can be saved, and is one that the types of its parts can hold
+pub record AreWritable (plan : Plan) (journal : List Entry) : Type 0 where
+  pub savable : All (IsSavable plan) journal
+  pub fits : All Fits journal
 
 -- how long a run may become
 abbrev pub run_limits : Limits
@@ -125,10 +134,17 @@ module _ (play : Play) where
   abbrev pub printed_of : (i : Inputs) → IsPlayed i → List Saving
   printed_of i is = record { name = standard_output; text = summary_of i is.scene is.settled } ∷ []
 
-  -- What comes of inputs that were read, of which these texts are saved once they were played. Want of memory has no cause that could be
-  -- told, and it leaves all as it was, as each stop does.
-  abbrev pub Comes : ShelfMoment → ShelfMoment → (i : Inputs) → (IsPlayed i → List Saving) → Status → Type 0
-  Comes old new i texts status.Done = (is : IsPlayed i) × Saves old new (texts is)
-  Comes old new i texts (status.WriteFault name) = (is : IsPlayed i) × SavingFails old new (texts is) name
-  Comes old new i texts status.OutOfMemory = IsUntouched old new
-  Comes old new i texts e = IsStopped play.leads i e × IsUntouched old new
+  -- what is known of a journal that was printed; of one that was not, nothing more
+  abbrev pub fits_of : (i : Inputs) → IsPlayed i → Type 0
+  fits_of i is = AreWritable i.plan is.scene.world.journal
+
+  abbrev pub nothing_of : (i : Inputs) → IsPlayed i → Type 0
+  nothing_of i is = Unit {0}
+
+  -- What comes of inputs that were read, of which these texts are saved once they were played, and this is known of them then. Want of
+  -- memory has no cause that could be told, and it leaves all as it was, as each stop does.
+  abbrev pub Comes : ShelfMoment → ShelfMoment → (i : Inputs) → (IsPlayed i → Type 0) → (IsPlayed i → List Saving) → Status → Type 0
+  Comes old new i known texts status.Done = (is : IsPlayed i) × Saves old new (texts is) × known is
+  Comes old new i known texts (status.WriteFault name) = (is : IsPlayed i) × SavingFails old new (texts is) name
+  Comes old new i known texts status.OutOfMemory = IsUntouched old new
+  Comes old new i known texts e = IsStopped play.leads i e × IsUntouched old new

@@ -2,7 +2,7 @@ ghost use Rattle.std.specs.Prelude.{◌≡◌, length};
 ghost use Rattle.pl_inputs.specs.Loaded.{inputs_of};
 ghost use Rattle.pl_output.specs.Room.{HaveRoom};
 ghost use Rattle.pl_playing.specs.Networks.{on_fabric};
-ghost use Rattle.pl_playing.specs.Outcomes.{Comes, EndsSaving, printed_of};
+ghost use Rattle.pl_playing.specs.Outcomes.{Comes, EndsSaving, nothing_of, printed_of};
 ghost use Rattle.pl_playing.specs.Plays.{answer_of, played_over, printed_by};
 ghost use Rattle.pl_playing.specs.Prepared.{HasRoomFor, NamesNoFault};
 
@@ -27,7 +27,8 @@ pub fn play_and_print<S: LooseSwitch, M: LawfulManager, H: LawfulHost, D: Shelf>
 ) -> Result<(), Status>
     ensures comes { Comes (on_fabric S.rule M.rule H.rule)
         (D.moment shelf.old) (D.moment shelf.new)
-        (inputs_of inputs) (printed_of (on_fabric S.rule M.rule H.rule) (inputs_of inputs)) (answer_of result) }
+        (inputs_of inputs) (nothing_of (on_fabric S.rule M.rule H.rule) (inputs_of inputs))
+        (printed_of (on_fabric S.rule M.rule H.rule) (inputs_of inputs)) (answer_of result) }
     ensures prepared { HasRoomFor (on_fabric S.rule M.rule H.rule) (D.capacity shelf.old) (D.moment shelf.old).held (inputs_of inputs)
         (printed_of (on_fabric S.rule M.rule H.rule) (inputs_of inputs)) → NamesNoFault (answer_of result) }
 {

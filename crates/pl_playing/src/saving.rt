@@ -1,12 +1,14 @@
 ghost use Rattle.std.specs.Prelude.{◌≡◌, [], All, IfOk, length, string_bytes};
 ghost use Rattle.std.specs.List.{AllByRecursion};
+ghost use Rattle.pl_inputs.specs.declared.status.Status.TheVariants.{Done};
 ghost use Rattle.pl_inputs.specs.Loaded.{inputs_of};
+ghost use Rattle.pl_journal.specs.Ranges.{Fits};
 ghost use Rattle.pl_journal.specs.Savable.{IsSavable};
 ghost use Rattle.pl_output.specs.Room.{HaveRoom};
 ghost use Rattle.pl_output.specs.Texts.{AreTexts};
 ghost use Rattle.pl_script.specs.ForBridges.{LineRepairsNoLink};
 ghost use Rattle.pl_playing.specs.Networks.{on_bridges, on_fabric};
-ghost use Rattle.pl_playing.specs.Outcomes.{Comes, EndsSaving, texts_of};
+ghost use Rattle.pl_playing.specs.Outcomes.{Comes, EndsSaving, fits_of, texts_of};
 ghost use Rattle.pl_playing.specs.Plays.{answer_of, played_over, summary_by, texts_by};
 ghost use Rattle.pl_playing.specs.Prepared.{HasRoomFor, NamesNoFault};
 
@@ -34,7 +36,8 @@ pub fn play_and_save<S: LooseSwitch, M: LawfulManager, H: LawfulHost, D: Shelf>(
 ) -> Result<(), Status>
     ensures comes { Comes (on_fabric S.rule M.rule H.rule)
         (D.moment shelf.old) (D.moment shelf.new)
-        (inputs_of inputs) (texts_of (on_fabric S.rule M.rule H.rule) out.now (inputs_of inputs)) (answer_of result) }
+        (inputs_of inputs) (fits_of (on_fabric S.rule M.rule H.rule) (inputs_of inputs))
+        (texts_of (on_fabric S.rule M.rule H.rule) out.now (inputs_of inputs)) (answer_of result) }
     ensures prepared { HasRoomFor (on_fabric S.rule M.rule H.rule) (D.capacity shelf.old) (D.moment shelf.old).held (inputs_of inputs)
         (texts_of (on_fabric S.rule M.rule H.rule) out.now (inputs_of inputs)) → NamesNoFault (answer_of result) }
 {
@@ -53,7 +56,8 @@ pub fn bridge_and_save<S: LearningBridge, M: ManagerLogic, H: HostLogic, D: Shel
     requires { AllByRecursion LineRepairsNoLink (inputs_of inputs).lines }
     ensures comes { Comes (on_bridges S.rule M.rule H.rule)
         (D.moment shelf.old) (D.moment shelf.new)
-        (inputs_of inputs) (texts_of (on_bridges S.rule M.rule H.rule) out.now (inputs_of inputs)) (answer_of result) }
+        (inputs_of inputs) (fits_of (on_bridges S.rule M.rule H.rule) (inputs_of inputs))
+        (texts_of (on_bridges S.rule M.rule H.rule) out.now (inputs_of inputs)) (answer_of result) }
     ensures prepared { HasRoomFor (on_bridges S.rule M.rule H.rule) (D.capacity shelf.old) (D.moment shelf.old).held (inputs_of inputs)
         (texts_of (on_bridges S.rule M.rule H.rule) out.now (inputs_of inputs)) → NamesNoFault (answer_of result) }
 {
@@ -76,6 +80,7 @@ fn save_played<S: SwitchLogic, M: ManagerLogic, H: HostLogic, D: Shelf>(
     ensures ends { EndsSaving
         (D.moment shelf.old) (D.moment shelf.new)
         (texts_by out.now (played_over network.now captures.now) is_settled) (answer_of result) }
+    ensures fits { answer_of result ≡ Done → All Fits network.now.world.journal }
     ensures prepared { HaveRoom (D.capacity shelf.old) (D.moment shelf.old).held (texts_by out.now (played_over network.now captures.now) is_settled) →
         NamesNoFault (answer_of result) }
 {

@@ -20,7 +20,7 @@ use Rattle.pl_playing.proofs.Exports.{no_stop}
 use Rattle.pl_run.specs.Answers.{Answers}
 use Rattle.pl_run.specs.Checks.{AnswersCheck, EndsCheck, line_of}
 use Rattle.pl_run.specs.Generated.{AnswersGenerated, IsUngenerated, ReadsGenerated, generated_files, without_read_fault}
-use Rattle.pl_run.specs.Fabric.{Comes, IsPlayed, play_on, printed_of, texts_of}
+use Rattle.pl_run.specs.Fabric.{Comes, IsPlayed, fits_of, nothing_of, play_on, printed_of, texts_of}
 
 -- a shelf that holds the same, and of which no call failed
 pub record IsSameMoment (old new : ShelfMoment) : Type 0 where
@@ -74,27 +74,27 @@ fails_since old mid new is savings name s = record {
   rose = subst (λ n. Rose n new.write_faults) is.writes s.rose;
 }
 
-pub comes_since : (network : Network) (old mid new : ShelfMoment) → IsSameMoment old mid → (i : Inputs) (texts : IsPlayed network i → List Saving) (e : Status) →
-    Comes network mid new i texts e → Comes network old new i texts e
-comes_since network old mid new is i texts status.Done c = (c.0, saves_since old mid new is (texts c.0) c.1)
-comes_since network old mid new is i texts (status.WriteFault name) c = (c.0, fails_since old mid new is (texts c.0) name c.1)
-comes_since network old mid new is i texts status.OutOfMemory c = untouched_since old mid new is c
-comes_since network old mid new is i texts status.Usage c = (c.0, untouched_since old mid new is c.1)
-comes_since network old mid new is i texts (status.NotLegal entry) c = (c.0, untouched_since old mid new is c.1)
-comes_since network old mid new is i texts (status.BadJournal line) c = (c.0, untouched_since old mid new is c.1)
-comes_since network old mid new is i texts (status.ReadFault name) c = (c.0, untouched_since old mid new is c.1)
-comes_since network old mid new is i texts (status.TooLong name) c = (c.0, untouched_since old mid new is c.1)
-comes_since network old mid new is i texts (status.BadTopology reason) c = (c.0, untouched_since old mid new is c.1)
-comes_since network old mid new is i texts (status.BadScript line reason) c = (c.0, untouched_since old mid new is c.1)
-comes_since network old mid new is i texts (status.BadCapture host e at) c = (c.0, untouched_since old mid new is c.1)
-comes_since network old mid new is i texts (status.BadSection host e) c = (c.0, untouched_since old mid new is c.1)
-comes_since network old mid new is i texts (status.ExpectFailed line) c = (c.0, untouched_since old mid new is c.1)
-comes_since network old mid new is i texts (status.Refused line reason) c = (c.0, untouched_since old mid new is c.1)
-comes_since network old mid new is i texts (status.StepsSpent line) c = (c.0, untouched_since old mid new is c.1)
-comes_since network old mid new is i texts (status.JournalFull line) c = (c.0, untouched_since old mid new is c.1)
+pub comes_since : (network : Network) (old mid new : ShelfMoment) → IsSameMoment old mid → (i : Inputs) (known : IsPlayed network i → Type 0)
+    (texts : IsPlayed network i → List Saving) (e : Status) → Comes network mid new i known texts e → Comes network old new i known texts e
+comes_since network old mid new is i known texts status.Done c = (c.0, saves_since old mid new is (texts c.0) c.1, c.2)
+comes_since network old mid new is i known texts (status.WriteFault name) c = (c.0, fails_since old mid new is (texts c.0) name c.1)
+comes_since network old mid new is i known texts status.OutOfMemory c = untouched_since old mid new is c
+comes_since network old mid new is i known texts status.Usage c = (c.0, untouched_since old mid new is c.1)
+comes_since network old mid new is i known texts (status.NotLegal entry) c = (c.0, untouched_since old mid new is c.1)
+comes_since network old mid new is i known texts (status.BadJournal line) c = (c.0, untouched_since old mid new is c.1)
+comes_since network old mid new is i known texts (status.ReadFault name) c = (c.0, untouched_since old mid new is c.1)
+comes_since network old mid new is i known texts (status.TooLong name) c = (c.0, untouched_since old mid new is c.1)
+comes_since network old mid new is i known texts (status.BadTopology reason) c = (c.0, untouched_since old mid new is c.1)
+comes_since network old mid new is i known texts (status.BadScript line reason) c = (c.0, untouched_since old mid new is c.1)
+comes_since network old mid new is i known texts (status.BadCapture host e at) c = (c.0, untouched_since old mid new is c.1)
+comes_since network old mid new is i known texts (status.BadSection host e) c = (c.0, untouched_since old mid new is c.1)
+comes_since network old mid new is i known texts (status.ExpectFailed line) c = (c.0, untouched_since old mid new is c.1)
+comes_since network old mid new is i known texts (status.Refused line reason) c = (c.0, untouched_since old mid new is c.1)
+comes_since network old mid new is i known texts (status.StepsSpent line) c = (c.0, untouched_since old mid new is c.1)
+comes_since network old mid new is i known texts (status.JournalFull line) c = (c.0, untouched_since old mid new is c.1)
 
 -- a run whose inputs were read
-pub run_answers : (old new : ShelfMoment) (asked : Asked) (i : Inputs) → AreRead old.held asked i → (e : Status) → Comes asked.network old new i (texts_of asked.network asked.out i) e → Answers old new asked e
+pub run_answers : (old new : ShelfMoment) (asked : Asked) (i : Inputs) → AreRead old.held asked i → (e : Status) → Comes asked.network old new i (fits_of asked.network i) (texts_of asked.network asked.out i) e → Answers old new asked e
 run_answers old new asked i read status.Done c = (i, read, c)
 run_answers old new asked i read (status.WriteFault name) c = (i, read, c)
 run_answers old new asked i read (status.ExpectFailed line) c = (i, read, c)
@@ -175,7 +175,7 @@ unplanned_answers old new topology same writes (status.StepsSpent line) u reads 
 unplanned_answers old new topology same writes (status.JournalFull line) u reads = absurd u
 
 -- generated files that were read
-pub generated_answers : (old new : ShelfMoment) (g : Generation) (i : Inputs) → ReadsGenerated g i → (e : Status) → Comes Fabric old new i (printed_of Fabric i) e →
+pub generated_answers : (old new : ShelfMoment) (g : Generation) (i : Inputs) → ReadsGenerated g i → (e : Status) → Comes Fabric old new i (nothing_of Fabric i) (printed_of Fabric i) e →
     AnswersGenerated old new g.k g.number g.frames e
 generated_answers old new g i read status.Done c = (read.0, read.1, (i, read.2, c))
 generated_answers old new g i read (status.WriteFault name) c = (read.0, read.1, (i, read.2, c))

@@ -17,7 +17,7 @@ use Rattle.pl_run.specs.Faults.{TellsFaults}
 use Rattle.pl_run.specs.Generated.{AnswersGenerated, AnswersOver, IsGeneratedRun}
 use Rattle.pl_run.specs.Tasks.{AnswersTask}
 use Rattle.pl_run.specs.Verified.{AnswersJournal, AnswersVerify, IsNotRead, told_of}
-use Rattle.pl_run.specs.Fabric.{Comes, IsPlayed, printed_of, texts_of}
+use Rattle.pl_run.specs.Fabric.{Comes, IsPlayed, fits_of, nothing_of, printed_of, texts_of}
 
 -- a count that stands did not rise
 no_rise : (old new : ℕ) → new ≡ old → old < new → ⊥
@@ -47,26 +47,27 @@ write_tells old new savings name is = record {
   writes = λ more. (name, refl);
 }
 
-comes_tells : (network : Network) (old new : ShelfMoment) (i : Inputs) (texts : IsPlayed network i → List Saving) (e : Status) → Comes network old new i texts e → TellsFaults old new e
-comes_tells network old new i texts status.Done c = saves_tells old new (texts c.0) status.Done c.1
-comes_tells network old new i texts (status.WriteFault name) c = write_tells old new (texts c.0) name c.1
-comes_tells network old new i texts status.OutOfMemory c = untouched_tells old new status.OutOfMemory c
-comes_tells network old new i texts status.Usage c = untouched_tells old new status.Usage c.1
-comes_tells network old new i texts (status.NotLegal entry) c = untouched_tells old new (status.NotLegal entry) c.1
-comes_tells network old new i texts (status.BadJournal line) c = untouched_tells old new (status.BadJournal line) c.1
-comes_tells network old new i texts (status.ReadFault name) c = untouched_tells old new (status.ReadFault name) c.1
-comes_tells network old new i texts (status.TooLong name) c = untouched_tells old new (status.TooLong name) c.1
-comes_tells network old new i texts (status.BadTopology reason) c = untouched_tells old new (status.BadTopology reason) c.1
-comes_tells network old new i texts (status.BadScript line reason) c = untouched_tells old new (status.BadScript line reason) c.1
-comes_tells network old new i texts (status.BadCapture host e at) c = untouched_tells old new (status.BadCapture host e at) c.1
-comes_tells network old new i texts (status.BadSection host e) c = untouched_tells old new (status.BadSection host e) c.1
-comes_tells network old new i texts (status.ExpectFailed line) c = untouched_tells old new (status.ExpectFailed line) c.1
-comes_tells network old new i texts (status.Refused line reason) c = untouched_tells old new (status.Refused line reason) c.1
-comes_tells network old new i texts (status.StepsSpent line) c = untouched_tells old new (status.StepsSpent line) c.1
-comes_tells network old new i texts (status.JournalFull line) c = untouched_tells old new (status.JournalFull line) c.1
+comes_tells : (network : Network) (old new : ShelfMoment) (i : Inputs) (known : IsPlayed network i → Type 0) (texts : IsPlayed network i → List Saving) (e : Status) →
+    Comes network old new i known texts e → TellsFaults old new e
+comes_tells network old new i known texts status.Done c = saves_tells old new (texts c.0) status.Done c.1
+comes_tells network old new i known texts (status.WriteFault name) c = write_tells old new (texts c.0) name c.1
+comes_tells network old new i known texts status.OutOfMemory c = untouched_tells old new status.OutOfMemory c
+comes_tells network old new i known texts status.Usage c = untouched_tells old new status.Usage c.1
+comes_tells network old new i known texts (status.NotLegal entry) c = untouched_tells old new (status.NotLegal entry) c.1
+comes_tells network old new i known texts (status.BadJournal line) c = untouched_tells old new (status.BadJournal line) c.1
+comes_tells network old new i known texts (status.ReadFault name) c = untouched_tells old new (status.ReadFault name) c.1
+comes_tells network old new i known texts (status.TooLong name) c = untouched_tells old new (status.TooLong name) c.1
+comes_tells network old new i known texts (status.BadTopology reason) c = untouched_tells old new (status.BadTopology reason) c.1
+comes_tells network old new i known texts (status.BadScript line reason) c = untouched_tells old new (status.BadScript line reason) c.1
+comes_tells network old new i known texts (status.BadCapture host e at) c = untouched_tells old new (status.BadCapture host e at) c.1
+comes_tells network old new i known texts (status.BadSection host e) c = untouched_tells old new (status.BadSection host e) c.1
+comes_tells network old new i known texts (status.ExpectFailed line) c = untouched_tells old new (status.ExpectFailed line) c.1
+comes_tells network old new i known texts (status.Refused line reason) c = untouched_tells old new (status.Refused line reason) c.1
+comes_tells network old new i known texts (status.StepsSpent line) c = untouched_tells old new (status.StepsSpent line) c.1
+comes_tells network old new i known texts (status.JournalFull line) c = untouched_tells old new (status.JournalFull line) c.1
 
 run_tells : (old new : ShelfMoment) (asked : Asked) (e : Status) → IsRun old new asked e → TellsFaults old new e
-run_tells old new asked e a = comes_tells asked.network old new a.0 (texts_of asked.network asked.out a.0) e a.2
+run_tells old new asked e a = comes_tells asked.network old new a.0 (fits_of asked.network a.0) (texts_of asked.network asked.out a.0) e a.2
 
 answers_tells : (old new : ShelfMoment) (asked : Asked) (e : Status) → Answers old new asked e → TellsFaults old new e
 answers_tells old new asked status.Done a = run_tells old new asked status.Done a
@@ -106,7 +107,7 @@ check_tells old new topology (status.JournalFull line) a = untouched_tells old n
 
 -- a run over generated files
 made_tells : (old new : ShelfMoment) (held : List ℕ → Held) (e : Status) → IsGeneratedRun old new held e → TellsFaults old new e
-made_tells old new held e a = comes_tells Fabric old new a.0 (printed_of Fabric a.0) e a.2
+made_tells old new held e a = comes_tells Fabric old new a.0 (nothing_of Fabric a.0) (printed_of Fabric a.0) e a.2
 
 over_tells : (old new : ShelfMoment) (held : List ℕ → Held) (e : Status) → AnswersOver old new held e → TellsFaults old new e
 over_tells old new held status.Done a = made_tells old new held status.Done a

@@ -10,3 +10,4 @@ pub mod Preparing
 pub mod Verifying
 pub mod Asking
 pub mod OnBridges
+pub mod Verified

@@ -6,11 +6,11 @@ use Rattle.pl_inputs.specs.Words.{Asked}
 use Rattle.pl_inputs.specs.declared.status.Status.TheVariants as status
 use Rattle.pl_playing.specs.Outcomes.{IsUntouched, ReadFails}
 use Rattle.pl_shelf.specs.Held.{ShelfMoment}
-use Rattle.pl_run.specs.Fabric.{Comes, texts_of}
+use Rattle.pl_run.specs.Fabric.{Comes, fits_of, texts_of}
 
 -- What each answer says of a run whose inputs are read from the shelf: they were read and something came of them; or they were not.
 abbrev pub IsRun : ShelfMoment → ShelfMoment → Asked → Status → Type 0
-IsRun old new asked e = (i : Inputs) × AreRead old.held asked i × Comes asked.network old new i (texts_of asked.network asked.out i) e
+IsRun old new asked e = (i : Inputs) × AreRead old.held asked i × Comes asked.network old new i (fits_of asked.network i) (texts_of asked.network asked.out i) e
 
 abbrev pub Answers : ShelfMoment → ShelfMoment → Asked → Status → Type 0
 Answers old new asked status.Done = IsRun old new asked status.Done

@@ -42,8 +42,15 @@ texts_of network = playing.texts_of (play_on network)
 abbrev pub printed_of : (network : Network) (i : Inputs) → IsPlayed network i → List Saving
 printed_of network = playing.printed_of (play_on network)
 
+-- what is known of them then: each entry of a journal that is saved is one that the types of its parts can hold
+abbrev pub fits_of : (network : Network) (i : Inputs) → IsPlayed network i → Type 0
+fits_of network = playing.fits_of (play_on network)
+
+abbrev pub nothing_of : (network : Network) (i : Inputs) → IsPlayed network i → Type 0
+nothing_of network = playing.nothing_of (play_on network)
+
 -- what comes of inputs that were read
-abbrev pub Comes : (network : Network) → ShelfMoment → ShelfMoment → (i : Inputs) → (IsPlayed network i → List Saving) → Status → Type 0
+abbrev pub Comes : (network : Network) → ShelfMoment → ShelfMoment → (i : Inputs) → (IsPlayed network i → Type 0) → (IsPlayed network i → List Saving) → Status → Type 0
 Comes network = playing.Comes (play_on network)
 
 -- there is room for what is saved of them

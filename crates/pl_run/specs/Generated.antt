@@ -10,7 +10,7 @@ use Rattle.pl_inputs.specs.declared.words.Network.TheVariants.{Fabric}
 use Rattle.pl_generator.specs.Generated.{AreGenerated}
 use Rattle.pl_inputs.specs.declared.status.Status.TheVariants as status
 use Rattle.pl_playing.specs.Outcomes.{IsUntouched}
-use Rattle.pl_run.specs.Fabric.{Comes, printed_of}
+use Rattle.pl_run.specs.Fabric.{Comes, nothing_of, printed_of}
 
 -- the names of the generated files; nothing is saved
 abbrev pub generated_files : Asked
@@ -18,7 +18,7 @@ generated_files = record { network = Fabric; topology = codes "topology.toml"; s
 
 -- the generated files were read, and something came of them, of which the summary alone is printed
 abbrev pub IsGeneratedRun : ShelfMoment → ShelfMoment → (List ℕ → Held) → Status → Type 0
-IsGeneratedRun old new held e = (i : Inputs) × AreRead held generated_files i × Comes Fabric old new i (printed_of Fabric i) e
+IsGeneratedRun old new held e = (i : Inputs) × AreRead held generated_files i × Comes Fabric old new i (nothing_of Fabric i) (printed_of Fabric i) e
 
 -- A run over generated files is answered as a run over files is, but no read of them fails.
 abbrev pub AnswersOver : ShelfMoment → ShelfMoment → (List ℕ → Held) → Status → Type 0

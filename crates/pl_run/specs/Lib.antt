@@ -7,3 +7,4 @@ pub mod Complete
 pub mod Faults
 pub mod Prepared
 pub mod Fabric
+pub mod Laws

@@ -6,7 +6,7 @@ ghost use Rattle.pl_playing.specs.Plays.{answer_of};
 ghost use Rattle.pl_playing.specs.Prepared.{NamesNoFault};
 ghost use Rattle.pl_script.specs.ForBridges.{LineRepairsNoLink};
 ghost use Rattle.pl_run.specs.Answers.{Answers};
-ghost use Rattle.pl_run.specs.Fabric.{Comes, HasRoomFor, texts_of};
+ghost use Rattle.pl_run.specs.Fabric.{Comes, HasRoomFor, fits_of, texts_of};
 ghost use Rattle.pl_run.specs.Prepared.{IsPreparedRun};
 
 use pl_bridge::{BridgeSwitch, QuietManager};
@@ -40,7 +40,7 @@ fn play_on<S: Shelf>(
     requires { network ≡ Network.Bridges → AllByRecursion LineRepairsNoLink (inputs_of inputs).lines }
     ensures comes { Comes network
         (S.moment shelf.old) (S.moment shelf.new)
-        (inputs_of inputs) (texts_of network out.now (inputs_of inputs)) (answer_of result) }
+        (inputs_of inputs) (fits_of network (inputs_of inputs)) (texts_of network out.now (inputs_of inputs)) (answer_of result) }
     ensures prepared { HasRoomFor network (S.capacity shelf.old) (S.moment shelf.old).held (inputs_of inputs) (texts_of network out.now (inputs_of inputs)) →
         NamesNoFault (answer_of result) }
 {

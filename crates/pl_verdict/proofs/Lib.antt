@@ -1,4 +1,5 @@
 pub mod Following
+pub mod Written
 pub mod OneVerdict
 pub mod Fitting
 pub mod Exports

@@ -5,7 +5,9 @@
 //! the crates above.
 #![tactic(auto)]
 
-pub use laws::{a_journal_is_legal_where_each_entry_follows, a_text_has_one_verdict};
+pub use laws::{
+    a_journal_is_legal_where_each_entry_follows, a_saved_journal_is_legal, a_text_has_one_verdict,
+};
 pub use verdict::{Verdict, VerifyError};
 
 mod laws;

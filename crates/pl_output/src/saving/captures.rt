@@ -9,7 +9,7 @@ ghost use Rattle.pl_output.specs.InTurn.{BreaksInTurn, BreaksOne, SavedInTurn, S
 ghost use Rattle.pl_output.specs.Mail.{frame_at, packets_at};
 ghost use Rattle.pl_output.specs.Receipts.{capture_in};
 ghost use Rattle.pl_output.specs.Room.{HasRoom, HaveRoomInTurn};
-ghost use Rattle.pl_journal.specs.Savable.{ArrivesCarried};
+ghost use Rattle.pl_journal.specs.Savable.{IsCarried};
 
 use crate::saving::inbox::Inbox;
 use crate::saving::receipt::Receipt;
@@ -25,7 +25,7 @@ pub(crate) fn save_captures<S: Shelf>(
     journal: &Journal,
     inboxes: Vec<Inbox>,
 ) -> Result<(), Name>
-    requires { All ArrivesCarried journal.now }
+    requires { All IsCarried journal.now }
     ensures ok { OnOk result (SavedInTurn (S.moment shelf.old).held
         (map (capture_in journal.now) inboxes.items) (S.moment shelf.new).held) }
     ensures err { IfErr result (λ name.
@@ -43,7 +43,7 @@ pub(crate) fn save_captures<S: Shelf>(
 }
 
 fn save_inbox<S: Shelf>(shelf: &mut S, journal: &Journal, inbox: Inbox) -> Result<(), Name>
-    requires { All ArrivesCarried journal.now }
+    requires { All IsCarried journal.now }
     ensures ok { OnOk result (SavesOne (S.moment shelf.old).held (S.moment shelf.new).held
         (capture_in journal.now inbox)) }
     ensures named { IfErr result (λ name. inbox.name ≡ name) }
@@ -68,7 +68,7 @@ pub(crate) fn save_capture<S: Shelf>(
     journal: &Journal,
     receipts: &[Receipt],
 ) -> Result<(), SaveError>
-    requires { All ArrivesCarried journal.now }
+    requires { All IsCarried journal.now }
     ensures ok { OnOk result (Changes (S.moment shelf.old).held (S.moment shelf.new).held name.now
         (with_end (created name.now ((S.moment shelf.old).held name.now))
         (saved_bytes (packets_at journal.now receipts.now)))) }
@@ -92,7 +92,7 @@ fn append_packets<S: Shelf>(
     journal: &Journal,
     receipts: &[Receipt],
 ) -> Result<(), SaveError>
-    requires { All ArrivesCarried journal.now }
+    requires { All IsCarried journal.now }
     ensures ok { OnOk result (Changes (S.moment shelf.old).held (S.moment shelf.new).held name.now
         (with_end ((S.moment shelf.old).held name.now)
         (flat_map (packet_bytes Little) (packets_at journal.now receipts.now)))) }
@@ -139,7 +139,7 @@ fn append_packet<S: Shelf>(
 /// The frame that the entry at an index brings to a host.
 fn frame_at(journal: &Journal, index: usize) -> &[u8]
     ensures frame { result.now ≡ frame_at journal.now index }
-    ensures carried { All ArrivesCarried journal.now → length result.now ≤ 65553 }
+    ensures carried { All IsCarried journal.now → length result.now ≤ 65553 }
 {
     match journal.get(index) {
         Some(Entry::Arrived(_, _, frame)) => frame.bytes(),

@@ -3,7 +3,7 @@ use Rattle.std.proofs.lemmas.Result.{err_from_is_err_and}
 use Rattle.pl_inputs.specs.declared.capture.Capture.{Capture}
 use Rattle.pl_inputs.specs.Loaded.{inputs_of}
 use Rattle.pl_playing.specs.Networks.{on_fabric}
-use Rattle.pl_playing.specs.Outcomes.{Comes, printed_of}
+use Rattle.pl_playing.specs.Outcomes.{Comes, nothing_of, printed_of}
 use Rattle.pl_shelf.specs.Held.{ShelfMoment}
 use Rattle.pl_playing.specs.Plays.{IsPlayedTo, answer_of, played_over}
 use Rattle.pl_playing.proofs.Playing.{printed_comes}
@@ -25,9 +25,9 @@ returns-in_err-fabric-clause-comes g c =
     let i = inputs_of c.args.inputs in
     let play = on_fabric g.S.SwitchLogic.rule g.M.ManagerLogic.rule g.H.HostLogic.rule in
     let p = err_from_is_err_and c.from_residual.result c.from_residual.ensures.1 in
-    subst (λ r. Comes play old old i (printed_of play i) (answer_of r)) (sym p.1)
-    (subst (λ e. Comes play old old i (printed_of play i) e) (sym p.2)
-    (unplayed_comes play old old (record { same = λ q. refl; reads = refl; writes = refl }) i (printed_of play i) _ c.in_err-fabric.ensures.err))
+    subst (λ r. Comes play old old i (nothing_of play i) (printed_of play i) (answer_of r)) (sym p.1)
+    (subst (λ e. Comes play old old i (nothing_of play i) (printed_of play i) e) (sym p.2)
+    (unplayed_comes play old old (record { same = λ q. refl; reads = refl; writes = refl }) i (nothing_of play i) (printed_of play i) _ c.in_err-fabric.ensures.err))
 
 pub returns-clause-comes : goal.returns-clause-comes
 returns-clause-comes g c =

@@ -3,7 +3,7 @@ use Rattle.std.proofs.lemmas.Result.{err_from_is_err_and}
 use Rattle.pl_inputs.specs.declared.capture.Capture.{Capture}
 use Rattle.pl_inputs.specs.Loaded.{inputs_of}
 use Rattle.pl_playing.specs.Networks.{on_fabric}
-use Rattle.pl_playing.specs.Outcomes.{Comes, texts_of}
+use Rattle.pl_playing.specs.Outcomes.{Comes, fits_of, texts_of}
 use Rattle.pl_shelf.specs.Held.{ShelfMoment}
 use Rattle.pl_playing.specs.Plays.{IsPlayedTo, answer_of, played_over}
 use Rattle.pl_playing.proofs.Playing.{saved_comes}
@@ -28,9 +28,9 @@ returns-in_err-fabric-clause-comes g c =
     let i = inputs_of c.args.inputs in
     let play = on_fabric g.S.SwitchLogic.rule g.M.ManagerLogic.rule g.H.HostLogic.rule in
     let p = err_from_is_err_and c.from_residual.result c.from_residual.ensures.1 in
-    subst (λ r. Comes play old old i (texts_of play c.args.out.now i) (answer_of r)) (sym p.1)
-    (subst (λ e. Comes play old old i (texts_of play c.args.out.now i) e) (sym p.2)
-    (unplayed_comes play old old (record { same = λ q. refl; reads = refl; writes = refl }) i (texts_of play c.args.out.now i) _ c.in_err-fabric.ensures.err))
+    subst (λ r. Comes play old old i (fits_of play i) (texts_of play c.args.out.now i) (answer_of r)) (sym p.1)
+    (subst (λ e. Comes play old old i (fits_of play i) (texts_of play c.args.out.now i) e) (sym p.2)
+    (unplayed_comes play old old (record { same = λ q. refl; reads = refl; writes = refl }) i (fits_of play i) (texts_of play c.args.out.now i) _ c.in_err-fabric.ensures.err))
 
 pub returns-clause-comes : goal.returns-clause-comes
 returns-clause-comes g c =
@@ -41,7 +41,8 @@ returns-clause-comes g c =
     let play = on_fabric g.S.SwitchLogic.rule g.M.ManagerLogic.rule g.H.HostLogic.rule in
     let p = played_over c.in_ok-fabric.fabric c.deref.result.now in
     let to : IsPlayedTo play i p = subst (λ (cs : List Capture). IsPlayedTo play i (played_over c.in_ok-fabric.fabric cs)) (sym c.deref.ensures.value) c.in_ok-fabric.ensures.ok in
-    saved_comes play old new i p to c.is_settled-settled.result c.is_settled-settled.ensures c.args.out.now (answer_of c.save_played.result) c.save_played.ensures.ends
+    saved_comes play old new i p to c.is_settled-settled.result c.is_settled-settled.ensures c.args.out.now (answer_of c.save_played.result)
+    c.save_played.ensures.fits c.save_played.ensures.ends
 
 pub returns-in_err-fabric-clause-prepared : goal.returns-in_err-fabric-clause-prepared
 returns-in_err-fabric-clause-prepared g c room =

@@ -1,4 +1,5 @@
-use Rattle.std.proofs.Common.{◌≡◌, ◌∙◌, List, ap, subst, sym, string_bytes}
+use Rattle.std.proofs.Common.{◌≡◌, ◌∙◌, All, List, ap, subst, sym, string_bytes}
+use Rattle.pl_journal.specs.Ranges.{Fits}
 use Rattle.pl_output.specs.Receipts.{saved_texts}
 use Rattle.pl_output.specs.Saved.{AreSaved, BreaksOff}
 use Rattle.pl_output.specs.Texts.{AreTexts}
@@ -62,3 +63,8 @@ returns-in-Err-clause-prepared g c room =
     (of_lent (λ p j. HaveRoom capacity held (saved_texts out p j (string_bytes texts.summary))) c.wiring.result.now world.plan c.journal.result.now world.journal
     (sym plan) (sym journal)
     (subst (λ t. HaveRoom capacity held (saved_texts out world.plan world.journal t)) (sym c.in_ok-texts.ensures.summary) room))
+
+pub returns-in-Ok-clause-fits : goal.returns-in-Ok-clause-fits
+returns-in-Ok-clause-fits g c done =
+    let journal : c.journal.result.now ≡ c.args.network.now.world.journal = c.journal.ensures ∙ ap (λ (w : WorldView). w.journal) c.world-world.ensures in
+    subst (All Fits) journal c.in-Ok.ensures.fits

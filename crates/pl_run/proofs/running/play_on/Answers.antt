@@ -2,14 +2,14 @@ use Rattle.std.proofs.Common.{sym, subst}
 use Rattle.pl_inputs.specs.declared.words.Network.{Network}
 use Rattle.pl_inputs.specs.Loaded.{inputs_of}
 use Rattle.pl_playing.specs.Plays.{answer_of}
-use Rattle.pl_run.specs.Fabric.{Comes, HasRoomFor, texts_of}
+use Rattle.pl_run.specs.Fabric.{Comes, HasRoomFor, fits_of, texts_of}
 use Rattle.pl_run.proofs.running.play_on.Goals as goal
 
 pub returns-in-Fabric-clause-comes : goal.returns-in-Fabric-clause-comes
 returns-in-Fabric-clause-comes g c =
     let S = g.S.Shelf in
     let i = inputs_of c.args.inputs in
-    subst (λ (n : Network). Comes n (S.moment c.args.shelf.now) (S.moment c.play_and_save.new.shelf) i (texts_of n c.args.out.now i) (answer_of c.play_and_save.result))
+    subst (λ (n : Network). Comes n (S.moment c.args.shelf.now) (S.moment c.play_and_save.new.shelf) i (fits_of n i) (texts_of n c.args.out.now i) (answer_of c.play_and_save.result))
     (sym c.in-Fabric.is) c.play_and_save.ensures.comes
 
 pub returns-in-Fabric-clause-prepared : goal.returns-in-Fabric-clause-prepared
@@ -23,7 +23,7 @@ pub returns-in-Bridges-clause-comes : goal.returns-in-Bridges-clause-comes
 returns-in-Bridges-clause-comes g c =
     let S = g.S.Shelf in
     let i = inputs_of c.args.inputs in
-    subst (λ (n : Network). Comes n (S.moment c.args.shelf.now) (S.moment c.bridge_and_save.new.shelf) i (texts_of n c.args.out.now i) (answer_of c.bridge_and_save.result))
+    subst (λ (n : Network). Comes n (S.moment c.args.shelf.now) (S.moment c.bridge_and_save.new.shelf) i (fits_of n i) (texts_of n c.args.out.now i) (answer_of c.bridge_and_save.result))
     (sym c.in-Bridges.is) c.bridge_and_save.ensures.comes
 
 pub returns-in-Bridges-clause-prepared : goal.returns-in-Bridges-clause-prepared

@@ -9,7 +9,7 @@ use Rattle.pl_run.proofs.Ending.{comes_since, run_answers}
 use Rattle.pl_run.proofs.OnBridges.{none_repaired}
 use Rattle.pl_run.proofs.Preparing.{room_since, unread_names_none}
 use Rattle.pl_run.proofs.running.run.Goals as goal
-use Rattle.pl_run.specs.Fabric.{texts_of}
+use Rattle.pl_run.specs.Fabric.{fits_of, texts_of}
 
 pub play_on-requires : goal.play_on-requires
 play_on-requires g c is =
@@ -26,7 +26,8 @@ returns-clause-answers g c =
     let e = c.in_ok-inputs.ensures in
     let i = inputs_of c.in_ok-inputs.inputs in
     run_answers old new (asked c.args.files.now) i e.ok (answer_of c.play_on.result)
-    (comes_since c.args.files.now.network old mid new (record { same = e.same; reads = e.reads; writes = e.writes }) i (texts_of c.args.files.now.network c.args.files.now.out.now i) (answer_of c.play_on.result)
+    (comes_since c.args.files.now.network old mid new (record { same = e.same; reads = e.reads; writes = e.writes }) i (fits_of c.args.files.now.network i)
+    (texts_of c.args.files.now.network c.args.files.now.out.now i) (answer_of c.play_on.result)
     c.play_on.ensures.comes)
 
 pub returns-in_err-inputs-clause-prepared : goal.returns-in_err-inputs-clause-prepared

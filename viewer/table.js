@@ -6,7 +6,7 @@ globalThis.Table = {
 |---|---|---|
 | "sent ID HOST HEX" | "sent_by_host": a host put a frame out, by "starting", "playing", "playing_raw", "retrying", "moving", "joining", "leaving" or "receiving" | pl_world/Changes, pl_host_rule/HostRule |
 | "skipped HOST SKIP" | "skip_noted": a record is not played, for the first reason of "skip_of" | pl_world/OtherActs, pl_host_rule/HostRule |
-| "made ID SWITCH HEX" | "made": an answer, a flood, a probe or a word to a sender, by "makes" | pl_world/SwitchActs, pl_switch_rule/Delivering |
+| "made ID SWITCH HEX" | "made": an answer, a flood or a word to a sender, by "makes", or a probe, by "probe_acts" | pl_world/SwitchActs, pl_switch_rule/Delivering, pl_switch_rule/Messages |
 | "crossed ID SWITCH" | "ComesAtSwitch", "made", "crossed_again" | pl_world/WorldRule, pl_world/SwitchActs |
 | "redirected ID OLD NEW" | "redirected", by "redirects" | pl_world/SwitchActs, pl_switch_rule/Delivering |
 | "copied ID NEWID" | "passed", by "forwards_group" | pl_world/SwitchActs, pl_switch_rule/GroupForwarding |
@@ -15,7 +15,7 @@ globalThis.Table = {
 | "dropped ID CAUSE" | "ended" and others: see the causes below | pl_world/SwitchActs |
 | "granted PMAC HOST SWITCH PORT" | "act_done", by "grants_next" | pl_world/SwitchActs, pl_switch_rule/Granting |
 | "registered PMAC NUMBER" | "manager_act_done", by "learning" | pl_world/OtherActs, pl_manager_rule/ManagerRule |
-| "freed PMAC" | "is_live" of that address until then; no switch writes it yet | pl_journal/Places |
+| "freed PMAC" | "act_done", by "frees" | pl_world/SwitchActs, pl_switch_rule/Messages |
 | "placed SWITCH LEVEL POSITION POD" | "place_noted" | pl_world/SwitchActs |
 | "linkdown A B", "linkup A B" | "link_failed", "link_repaired" | pl_world/LinksAndMoves |
 | "moved HOST SWITCH PORT" | "host_moved" | pl_world/LinksAndMoves |
@@ -23,7 +23,7 @@ globalThis.Table = {
 |---|---|---|
 | "NotPlaced" | "comes_from_switch", "comes_from_host", "takes_in" | pl_switch_rule/SwitchRule, pl_switch_rule/Intake |
 | "NoNextHop" | "leaves_by" where "candidates_by" has none; of a group "no_way" | pl_switch_rule/Forwarding, pl_switch_rule/GroupForwarding |
-| "NoAddress" | "delivers" where "granted" finds none | pl_switch_rule/Delivering, pl_switch_rule/Granting |
+| "NoAddress" | "delivers" where "held_here" finds none | pl_switch_rule/Delivering, pl_switch_rule/Granting |
 | "HostGone" | "ComesAtHost", "host_moved" | pl_world/WorldRule, pl_world/LinksAndMoves |
 | "LinkDown" | "goes_out", "link_failed" | pl_world/SwitchActs, pl_world/LinksAndMoves |
 | "Lost" | "item_lost" | pl_world/LinksAndMoves |

@@ -91,8 +91,10 @@ with_source_shaped v port frame s = record {
   ports = s.ports;
   holds = s.holds;
   grants = s.grants;
+  freed = s.freed;
   remembered = s.remembered;
   granted = s.granted;
+  free = s.free;
   sources = s.sources;
 }
 

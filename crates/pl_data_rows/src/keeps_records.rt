@@ -7,10 +7,10 @@ ghost use Rattle.pl_layouts.specs.Placement.{is_known};
 ghost use Rattle.pl_ports.specs.Changes.{takes_host};
 ghost use Rattle.pl_steps.specs.Taken.{IsTaken, IsTakenUpTo};
 ghost use Rattle.pl_switch_rule.specs.Forwarding.{Choice};
-ghost use Rattle.pl_switch_rule.specs.Granting.{granted, has_no_address, is_granted, learns_source};
+ghost use Rattle.pl_switch_rule.specs.Granting.{granted, has_no_address, held_here, is_granted, learns_source};
 ghost use Rattle.pl_switch_rule.specs.Intake.{takes_in};
 ghost use Rattle.pl_switch_rule.specs.Levels.{finds_host};
-ghost use Rattle.pl_switch_rule.specs.Messages.{hears_pod, invalidates, with_part};
+ghost use Rattle.pl_switch_rule.specs.Messages.{frees, hears_pod, invalidates, with_part};
 ghost use Rattle.pl_switch_rule.specs.SwitchRule.{control_comes};
 
 use pl_edge::{EdgeAct, EdgeTable};
@@ -31,7 +31,7 @@ pub trait KeepsRecords: GroupFacts + UnicastFacts {
         ensures part { edge_in result.now (Self.view self.now) ≡ Self.view self.now }
         ensures may { is_known (Self.view self.now).place.level 0 ≡ true → MayBeAt result.now.address_table (Self.view self.now).place };
 
-    /// Whether an address was granted here, be it in use or not.
+    /// Whether an address was granted here, be it free by now or not.
     fn is_granted(&self, address: Pmac) -> bool
         ensures { result ≡ is_granted (Self.view self.now) address };
 
@@ -70,10 +70,16 @@ pub trait KeepsRecords: GroupFacts + UnicastFacts {
         ensures id { (Self.view self.new).id ≡ (Self.view self.old).id }
         ensures k { (Self.view self.new).k ≡ (Self.view self.old).k };
 
-    /// A host has a newer address than one that was granted here.
+    /// A host has a newer address than one that was granted here. Where that is free, nothing changes.
     fn invalidate(&mut self, old: Pmac, to: Trap, out: &mut Outbox) -> Result<(), Memory>
         requires { is_granted (Self.view self.old) old ≡ true }
-        ensures taken { OnOk result (IsTaken (invalidates (Self.view self.old) old to (granted (Self.view self.old) old)) (Self.view self.new) out.old out.new) }
+        ensures taken { OnOk result (IsTaken (invalidates (Self.view self.old) old to (held_here (Self.view self.old) old)) (Self.view self.new) out.old out.new) }
+        ensures id { (Self.view self.new).id ≡ (Self.view self.old).id }
+        ensures k { (Self.view self.new).k ≡ (Self.view self.old).k };
+
+    /// The fabric manager releases an address: where it rests here, it is free from now on.
+    fn release(&mut self, pmac: Pmac, out: &mut Outbox) -> Result<(), Memory>
+        ensures taken { OnOk result (IsTaken (frees (Self.view self.old) pmac (granted (Self.view self.old) pmac)) (Self.view self.new) out.old out.new) }
         ensures id { (Self.view self.new).id ≡ (Self.view self.old).id }
         ensures k { (Self.view self.new).k ≡ (Self.view self.old).k };
 

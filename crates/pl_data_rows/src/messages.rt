@@ -1,7 +1,7 @@
 ghost use Rattle.std.specs.Prelude.{◌≡◌, ◌≤◌, length, OnOk};
 ghost use Rattle.pl_node.specs.declared.messages.ToSwitch.TheVariants.{Answer, Flood};
 ghost use Rattle.pl_steps.specs.Taken.{IsTaken};
-ghost use Rattle.pl_switch_rule.specs.Granting.{granted};
+ghost use Rattle.pl_switch_rule.specs.Granting.{held_here};
 ghost use Rattle.pl_switch_rule.specs.Messages.{floods, hears_manager, invalidates};
 ghost use Rattle.pl_switch_rule.specs.SwitchRule.{by_flow};
 
@@ -52,6 +52,7 @@ pub fn hear_manager<S: KeepsRecords>(
             };
             invalidate(switch, *old, to, out)
         }
+        ToSwitch::Release(pmac) => switch.release(*pmac, out),
     }
 }
 
@@ -111,7 +112,7 @@ fn invalidate<S: KeepsRecords>(
     to: Trap,
     out: &mut Outbox,
 ) -> Result<(), Memory>
-    ensures taken { OnOk result (IsTaken (invalidates (S.view switch.old) old to (granted (S.view switch.old) old)) (S.view switch.new) out.old out.new) }
+    ensures taken { OnOk result (IsTaken (invalidates (S.view switch.old) old to (held_here (S.view switch.old) old)) (S.view switch.new) out.old out.new) }
     ensures id { (S.view switch.new).id ≡ (S.view switch.old).id }
     ensures k { (S.view switch.new).k ≡ (S.view switch.old).k }
 {

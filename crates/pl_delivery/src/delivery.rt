@@ -12,14 +12,15 @@ use pl_node::{Act, Cause, Memory, Outbox};
 use pl_pmac::Pmac;
 
 /// A frame for an address of this edge switch leaves by the port of the host that has it, under that
-/// host's actual address, in an ARP packet too. One for an address that was never granted is dropped.
+/// host's actual address, in an ARP packet too. One for an address that was never granted, or is free, is
+/// dropped.
 /// Takes memory for the outbox alone.
 pub fn deliver(address_table: &AddressTable, frame: Frame, out: &mut Outbox) -> Result<(), Memory>
     requires { 14 ≤ length frame }
     ensures { OnOk result (IsTakenByPart address_table_in (λ v. delivers v frame) address_table.now address_table.now out.old out.new) }
 {
     let to = destination(frame.bytes());
-    match address_table.granted(to) {
+    match address_table.held(to) {
         Some(grant) => pass_to_host(to.port, grant.amac, frame, out),
         None => out.push(Act::Drop(Cause::NoAddress)),
     }

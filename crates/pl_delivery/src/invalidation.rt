@@ -1,8 +1,8 @@
 ghost use Rattle.std.specs.Prelude.{◌≡◌, ◌∷◌, ◌++◌, [], IfOk, None, Ok, OnOk, Some};
 ghost use Rattle.pl_node.specs.declared.acts.Act.{Act};
 ghost use Rattle.pl_node.specs.SwitchViews.{SwitchView};
-ghost use Rattle.pl_migrate.specs.AddressTables.{address_table_in, granted_in, traps};
-ghost use Rattle.pl_migrate.specs.Keeping.{KeepsGrants};
+ghost use Rattle.pl_migrate.specs.AddressTables.{address_table_in, held_in, traps};
+ghost use Rattle.pl_migrate.specs.Keeping.{IsCaughtUp, KeepsGrants};
 ghost use Rattle.pl_steps.specs.Taken.{IsTaken};
 ghost use Rattle.pl_switch_rule.specs.Messages.{probe_frame, probes, probes_at};
 
@@ -16,18 +16,19 @@ use pl_pmac::{Pmac, pack};
 use std::alloc::Global;
 
 /// A host has a newer address than this one: a trap is set. The answer is what was granted under the old
-/// address, as it stood before; none where it was never granted here. Of that grant the memberships are
-/// to be forgotten, and then it is probed.
+/// address, as it stood before; none where it was never granted here, or is free. Of that grant the
+/// memberships are to be forgotten, and then it is probed.
 pub fn invalidate(
     address_table: &mut AddressTable,
     old: Pmac,
     to: Trap,
 ) -> Result<Option<Grant>, Memory>
-    ensures answer { IfOk result (λ grant. grant ≡ granted_in address_table.old old) }
-    ensures step { OnOk result ((v : SwitchView) → address_table_in address_table.new v ≡ traps (address_table_in address_table.old v) old to (granted_in address_table.old old)) }
+    ensures answer { IfOk result (λ grant. grant ≡ held_in address_table.old old) }
+    ensures step { OnOk result ((v : SwitchView) → address_table_in address_table.new v ≡ traps (address_table_in address_table.old v) old to (held_in address_table.old old)) }
+    ensures caught_up { IsCaughtUp address_table.old → IsCaughtUp address_table.new }
     ensures kept { KeepsGrants address_table.old address_table.new }
 {
-    let grant = address_table.granted(old);
+    let grant = address_table.held(old);
     address_table.trap(old, to)?;
     Ok(grant)
 }

@@ -15,7 +15,7 @@ use Rattle.pl_steps.specs.Steps.{SwitchStep}
 use Rattle.pl_steps.specs.Taken.{IsTaken, IsTakenUpTo}
 use Rattle.pl_switch_rule.specs.Delivering.{destination, tells_sender, trap_for}
 use Rattle.pl_switch_rule.specs.Forwarding.{Choice}
-use Rattle.pl_switch_rule.specs.Granting.{granted}
+use Rattle.pl_switch_rule.specs.Granting.{held_here}
 use Rattle.pl_switch_rule.specs.Messages.{forgets_members, invalidates, probes}
 use Rattle.pl_edge.specs.EdgeViews.{EdgeView, edge_in, MayBeAt}
 use Rattle.pl_edge.proofs.Placing.{edge_of}
@@ -44,10 +44,10 @@ module _ (edge : EdgeView) (k : ℕ) (address_table : AddressTableView) (remembe
 
 -- a trap is set, then memberships are forgotten, and then the host is probed
 pub three_parts : (edge set after : EdgeView) (old : Pmac) (trap : Trap) (grant : Grant) (at : Option Grant) (out between told : List Act) (v : SwitchView) →
-    at ≡ Some grant → at ≡ granted (edge_in edge v) old → edge_in set v ≡ traps (edge_in edge v) old trap at →
+    at ≡ Some grant → at ≡ held_here (edge_in edge v) old → edge_in set v ≡ traps (edge_in edge v) old trap at →
     IsTaken (forgets_members old.port grant.amac (edge_in set v)) (edge_in after v) out between →
     IsTaken (probes old grant (edge_in after v)) (edge_in after v) between told →
-    IsTaken (invalidates (edge_in edge v) old trap (granted (edge_in edge v) old)) (edge_in after v) out told
+    IsTaken (invalidates (edge_in edge v) old trap (held_here (edge_in edge v) old)) (edge_in after v) out told
 three_parts edge set after old trap grant at out between told v is_some is_granted is_set forgotten probed =
     subst (λ (g : Option Grant). IsTaken (invalidates (edge_in edge v) old trap g) (edge_in after v) out told) (sym is_some ∙ is_granted)
     (invalidated (edge_in edge v) (edge_in after v) old trap grant out between told

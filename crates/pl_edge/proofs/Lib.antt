@@ -1,4 +1,5 @@
 pub mod Placing
+pub mod AgedHere
 pub mod Noting
 pub mod Taking
 pub mod TellsAll

@@ -12,7 +12,7 @@ use Rattle.pl_steps.specs.Taken.{IsTaken, IsTakenByPart}
 use Rattle.pl_switch_rule.specs.Granting.{grants_at, grants_or_learns, grants_remembered, in_use, learns_source, sender_ip}
 use Rattle.pl_switch_rule.specs.Intake.{groups_told, members_become}
 use Rattle.pl_migrate.specs.AddressTables.{AddressTableView, address_table_in, edge_at, empty_address_table, sources_in}
-use Rattle.pl_edge.specs.EdgeViews.{EdgeView, edge_in, grants_by, KeepsAddressTable, KeepsEdge}
+use Rattle.pl_edge.specs.EdgeViews.{EdgeView, KeepsAddressTable, KeepsEdge, edge_in, freed_by, grants_by, trapped_by, used_by}
 
 abbrev pub edge_of : ℕ → Option AddressTableView → List (Option Source) → List Member → EdgeView
 edge_of k address_table remembered members = record { k = k; address_table = address_table; remembered = remembered; members = members }
@@ -36,7 +36,14 @@ pub settled : (edge : EdgeView) (pod position : ℕ) (address_table after : Addr
 settled edge pod position address_table after sources out told none is taken v =
     let w : SwitchView = record v { members = edge.members } in
     subst (λ (o : Option AddressTableView). IsTaken (grants_remembered (ports_of_switch edge.k)
-    (record w { place = edge_at pod position; grants = grants_by o edge.k; remembered = edge.remembered })) (sources_in after sources w) out told) (sym none)
+    (record w {
+      place = edge_at pod position;
+      grants = grants_by o edge.k;
+      used = used_by o;
+      trapped = trapped_by o;
+      freed = freed_by o edge.k;
+      remembered = edge.remembered;
+    })) (sources_in after sources w) out told) (sym none)
     (subst (λ (b : AddressTableView). IsTaken (grants_remembered (ports_of_switch edge.k) (sources_in b edge.remembered w)) (sources_in after sources w) out told) is (taken w))
 
 -- The memberships become others, and what is told of them is done.

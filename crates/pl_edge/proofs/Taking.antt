@@ -1,5 +1,5 @@
 -- What an edge switch takes in, case by case.
-use Rattle.std.proofs.Common.{◌≡◌, ℕ, ◌*◌, ◌/◌, ◌==◌, ◌&&◌, not, nat_le, Bool, true, false, if◌then◌else◌, List, [], ◌∷◌, ◌++◌, drop, length, slice_index, Option, Some, None, refl, sym, ap, ◌∙◌, subst, append_assoc, inl, inr}
+use Rattle.std.proofs.Common.{◌≡◌, ℕ, ◌/◌, ◌==◌, ◌&&◌, not, nat_le, Bool, true, false, if◌then◌else◌, List, [], ◌∷◌, ◌++◌, drop, length, slice_index, Option, Some, None, refl, sym, ap, ◌∙◌, subst, append_assoc, inl, inr}
 use Rattle.std.specs.Option.{is_none, is_some}
 use Rattle.std.specs.Result.{result_ok}
 use Rattle.std.proofs.lemmas.Bool.{cases_eq, ne_eqb, true≢false}
@@ -23,7 +23,7 @@ use Rattle.pl_migrate.specs.AddressTables.{AddressTableView, address_in_use, add
 use Rattle.pl_edge.specs.declared.edge_act.EdgeAct.{EdgeAct}
 use Rattle.pl_edge.specs.declared.edge_act.EdgeAct.TheVariants.{Taken, Drop as Dropped}
 use Rattle.pl_edge.specs.Begun.{left_to_do}
-use Rattle.pl_edge.specs.EdgeViews.{EdgeView, edge_in, grants_by, place_by, MayBeAt}
+use Rattle.pl_edge.specs.EdgeViews.{EdgeView, edge_in, freed_by, grants_by, place_by, trapped_by, used_by, MayBeAt}
 
 -- the address that a source has in use is the one of the address table
 numbered_is : (address_table : AddressTableView) (k : ℕ) (v : SwitchView) (port : ℕ) (vmid : Option ℕ) →
@@ -149,11 +149,12 @@ pub begun_rewritten : (choose : Choice) (port : ℕ) (frame new : List ℕ) (act
     IsTakenUpTo (left_to_do choose act new (edge_in edge v)) (takes_in choose port frame (edge_in edge v)) out out
 begun_rewritten choose port frame new act edge address_table v out is good apart other rewritten sent =
     let w : SwitchView = record v { remembered = edge.remembered; members = edge.members } in
+    let by_table : Option AddressTableView → SwitchView =
+    λ o. record w { place = place_by o v.place; grants = grants_by o edge.k; used = used_by o; trapped = trapped_by o; freed = freed_by o edge.k } in
     begun_sent choose port frame (edge_in edge v) act new out good apart other
     (ap (λ (o : Option AddressTableView). is_placed (place_by o v.place)) is)
     (rewritten ∙ ap (λ pmac. arriving frame (mac_of_pmac pmac) None) (sym (source_is edge v port frame address_table is)))
-    (subst (λ (o : Option AddressTableView). left_to_do choose act new (record w { place = place_by o v.place; grants = grants_by o edge.k })
-    ≡ sends_in choose new (record w { place = place_by o v.place; grants = grants_by o edge.k })) (sym is) (sent w))
+    (subst (λ (o : Option AddressTableView). left_to_do choose act new (by_table o) ≡ sends_in choose new (by_table o)) (sym is) (sent w))
 
 -- ---- what was read of a frame
 pub read_bad : (frame bytes : List ℕ) (packet : Option Arp) (b : Bool) → bytes ≡ frame → packet ≡ packet_in frame → b ≡ (is_arp bytes && is_none packet) →

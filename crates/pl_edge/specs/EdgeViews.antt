@@ -1,5 +1,5 @@
 -- What an edge switch keeps of the hosts at its ports, and the part of the switch that it is.
-use Rattle.std.specs.Prelude.{◌≡◌, ◌≤◌, ℕ, false, List, [], length, replicate, Option, Some, None, slice_index_or, slice_set}
+use Rattle.std.specs.Prelude.{◌≡◌, ◌≤◌, ℕ, false, List, [], ◌++◌, length, replicate, Option, Some, None, slice_index_or, slice_set}
 use Rattle.pl_frame.specs.declared.address.Ip4.{Ip4}
 use Rattle.pl_frame.specs.declared.address.Mac.{Mac}
 use Rattle.pl_pmac.specs.declared.pmac.Pmac.{Pmac}
@@ -11,8 +11,8 @@ use Rattle.pl_node.specs.declared.switch_records.Source.{Source}
 use Rattle.pl_node.specs.SwitchViews.{SwitchView}
 use Rattle.pl_switch_rule.specs.Granting.{or_else, remembered_ip}
 use Rattle.pl_migrate.specs.declared.grantee.Grantee.{Grantee}
-use Rattle.pl_migrate.specs.AddressTables.{AddressTableView, edge_at, empty_address_table, grantee_in}
-use Rattle.pl_migrate.specs.Keeping.{KeepsGrants, KeepsTraps}
+use Rattle.pl_migrate.specs.AddressTables.{AddressTableView, edge_at, empty_address_table, granted_in, grantee_in}
+use Rattle.pl_migrate.specs.Keeping.{IsCaughtUp, KeepsGrants, KeepsTraps}
 
 pub record EdgeView : Type 0 where
   pub k : ℕ
@@ -35,11 +35,26 @@ abbrev pub grants_by : Option AddressTableView → ℕ → List (List Grant)
 grants_by None k = replicate k []
 grants_by (Some address_table) k = address_table.grants
 
+abbrev pub used_by : Option AddressTableView → List Pmac
+used_by None = []
+used_by (Some address_table) = address_table.asked ++ address_table.fresh
+
+abbrev pub trapped_by : Option AddressTableView → List Pmac
+trapped_by None = []
+trapped_by (Some address_table) = address_table.trapped
+
+abbrev pub freed_by : Option AddressTableView → ℕ → List (List ℕ)
+freed_by None k = replicate k []
+freed_by (Some address_table) k = address_table.freed
+
 -- a switch with this part; as long as it is not placed, it has granted nothing
 abbrev pub edge_in : EdgeView → SwitchView → SwitchView
 edge_in edge v = record v {
   place = place_by edge.address_table v.place;
   grants = grants_by edge.address_table edge.k;
+  used = used_by edge.address_table;
+  trapped = trapped_by edge.address_table;
+  freed = freed_by edge.address_table edge.k;
   remembered = edge.remembered;
   members = edge.members;
 }
@@ -53,15 +68,20 @@ MayBeAt (Some address_table) place = Unit {0}
 abbrev pub placed_at : ℕ → ℕ → EdgeView → EdgeView
 placed_at pod position edge = record edge { address_table = Some (empty_address_table edge.k pod position) }
 
--- to which host, and at which port, an address was granted
+-- what was granted under an address, also where it is free
+abbrev pub granted_by : Option AddressTableView → Pmac → Option Grant
+granted_by None address = None
+granted_by (Some address_table) address = granted_in address_table address
+
+-- whose an address is, and at which port
 abbrev pub grantee_by : Option AddressTableView → Pmac → Option Grantee
 grantee_by None address = None
 grantee_by (Some address_table) address = grantee_in address_table address
 
--- an address table has the grants of each port
+-- an address table has the grants of each port, and nothing in it is due
 abbrev pub HasGrantsOfPorts : Option AddressTableView → ℕ → Type 0
 HasGrantsOfPorts None k = Unit {0}
-HasGrantsOfPorts (Some address_table) k = length address_table.grants ≡ k
+HasGrantsOfPorts (Some address_table) k = (length address_table.grants ≡ k) × IsCaughtUp address_table
 
 pub record IsOfPorts (k : ℕ) (address_table : Option AddressTableView) (remembered : List (Option Source)) : Type 0 where
   pub few : k ≤ 24

@@ -1,17 +1,17 @@
-ghost use Rattle.std.specs.Prelude.{◌≡◌, ◌<◌, ◌≤◌, ◌++◌, ℕ, [], None, not, is_some, length, IfOk, OnErr, OnOk};
+ghost use Rattle.std.specs.Prelude.{◌≡◌, ◌<◌, ◌≤◌, None, not, is_some, length, IfOk, OnErr, OnOk};
 ghost use Rattle.pl_frame.specs.Ethernet.{source_of};
 ghost use Rattle.pl_node.specs.PortRecords.{ports_of_switch};
 ghost use Rattle.pl_node.specs.SwitchViews.{SwitchView};
 ghost use Rattle.pl_steps.specs.Taken.{IsTaken};
 ghost use Rattle.pl_switch_rule.specs.Granting.{grants_remembered, has_no_address, learns_source, remembered_ip};
-ghost use Rattle.pl_migrate.specs.AddressTables.{edge_at};
-ghost use Rattle.pl_edge.specs.EdgeViews.{edge_in, grantee_by, new_edge, with_source, placed_at, KeepsAddressTable, KeepsEdge, MayBeAt};
+ghost use Rattle.pl_migrate.specs.AddressTables.{edge_at, use_of};
+ghost use Rattle.pl_edge.specs.EdgeViews.{edge_in, granted_by, grantee_by, new_edge, with_source, placed_at, KeepsAddressTable, KeepsEdge, MayBeAt};
 
 use crate::reading::{sender_ip, source_of};
 use pl_frame::{Frame, Ip4, Mac};
 use pl_members::Members;
 use pl_migrate::{AddressTable, Grantee};
-use pl_node::{Memory, Outbox, Source};
+use pl_node::{AddressUse, Memory, Outbox, Source};
 use pl_pmac::Pmac;
 use std::alloc::Global;
 use std::marker::Model;
@@ -73,7 +73,31 @@ impl EdgeTable {
         self.address_table = None;
     }
 
-    /// To whom an address was granted, be it in use or not; none also before the switch is placed.
+    /// Whether an address was granted here, be it free by now or not.
+    pub fn is_granted(&self, pmac: Pmac) -> bool
+        ensures { result ≡ is_some (granted_by self.now.address_table pmac) }
+    {
+        match &self.address_table {
+            Some(address_table) => address_table.granted(pmac).is_some(),
+            None => false,
+        }
+    }
+
+    /// What an address of this switch is used for; none where it was never granted, and before the switch is
+    /// placed.
+    pub fn holding(&self, pmac: Pmac) -> Option<AddressUse>
+        ensures { result ≡ use_of (granted_by self.now.address_table pmac) }
+    {
+        match &self.address_table {
+            Some(address_table) => {
+                let grant = address_table.granted(pmac)?;
+                Some(grant.held)
+            }
+            None => None,
+        }
+    }
+
+    /// Whose an address is, be it in use or not; none where it is free, and before the switch is placed.
     pub fn find(&self, pmac: Pmac) -> Option<Grantee>
         ensures { result ≡ grantee_by self.now.address_table pmac }
     {
@@ -100,7 +124,7 @@ impl EdgeTable {
 
     /// The source of a frame that a host sent is learnt: it has an address or is granted one, or it is
     /// remembered as long as the switch is not placed. False exactly where every vmid of the port was
-    /// given, so that it has none and the frame ends.
+    /// given and no address of it is free, so that it has none and the frame ends.
     pub fn learn(&mut self, port: u8, frame: &Frame, out: &mut Outbox) -> Result<bool, Memory>
         requires port { port < self.old.k }
         requires long { 14 ≤ length frame.now }

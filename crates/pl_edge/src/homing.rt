@@ -1,17 +1,18 @@
-ghost use Rattle.std.specs.Prelude.{◌≡◌, ◌≤◌, length, IfOk, IfSome, OnOk};
+ghost use Rattle.std.specs.Prelude.{◌≡◌, ◌≤◌, length, is_some, IfOk, IfSome, OnOk};
 ghost use Rattle.pl_node.specs.SwitchViews.{SwitchView};
 ghost use Rattle.pl_delivery.specs.Sending.{HasLength, left_to_do, makes_any};
 ghost use Rattle.pl_layouts.specs.declared.place.Place.{Place};
 ghost use Rattle.pl_steps.specs.Taken.{IsTaken, IsTakenUpTo};
 ghost use Rattle.pl_switch_rule.specs.Delivering.{comes_home, destination, makes, tells_sender, trap_for};
 ghost use Rattle.pl_switch_rule.specs.Forwarding.{Choice};
-ghost use Rattle.pl_switch_rule.specs.Granting.{granted};
-ghost use Rattle.pl_switch_rule.specs.Messages.{invalidates};
+ghost use Rattle.pl_switch_rule.specs.Granting.{granted, held_here};
+ghost use Rattle.pl_switch_rule.specs.Messages.{frees, invalidates};
+ghost use Rattle.pl_switch_rule.specs.Aging.{ages};
 ghost use Rattle.pl_migrate.specs.AddressTables.{traps};
 ghost use Rattle.pl_edge.specs.EdgeViews.{edge_in, place_by, MayBeAt};
 
 use crate::EdgeTable;
-use pl_delivery::{Sent, begin, egress, invalidate, probe, reply};
+use pl_delivery::{Sent, age, begin, egress, invalidate, probe, reply};
 use pl_frame::Frame;
 use pl_node::{Act, Cause, Grant, Memory, Outbox, Trap};
 use pl_pmac::Pmac;
@@ -64,9 +65,9 @@ impl EdgeTable {
 
     /// A host has a newer address than this one: a trap is set, what the host had joined at the port of
     /// the old one is forgotten, and where the old one was in use it is probed. An address that was never
-    /// granted here changes nothing.
+    /// granted here, or is free, changes nothing.
     pub fn invalidate(&mut self, old: Pmac, to: Trap, out: &mut Outbox) -> Result<(), Memory>
-        ensures taken { OnOk result ((v : SwitchView) → MayBeAt self.old.address_table v.place → IsTaken (invalidates (edge_in self.old v) old to (granted (edge_in self.old v) old)) (edge_in self.new v) out.old out.new) }
+        ensures taken { OnOk result ((v : SwitchView) → MayBeAt self.old.address_table v.place → IsTaken (invalidates (edge_in self.old v) old to (held_here (edge_in self.old v) old)) (edge_in self.new v) out.old out.new) }
         ensures place { (place : Place) → place_by self.new.address_table place ≡ place_by self.old.address_table place }
         ensures k { self.new.k ≡ self.old.k }
     {
@@ -79,9 +80,34 @@ impl EdgeTable {
         }
     }
 
-    // A trap is set for an address. The answer is what was granted under it.
+    /// A tick passes: the addresses age. Nothing is done before the switch is placed.
+    pub fn tick(&mut self, out: &mut Outbox) -> Result<(), Memory>
+        ensures taken { OnOk result ((v : SwitchView) → IsTaken (ages (edge_in self.old v)) (edge_in self.new v) out.old out.new) }
+        ensures place { (place : Place) → place_by self.new.address_table place ≡ place_by self.old.address_table place }
+        ensures placed { is_some self.new.address_table ≡ is_some self.old.address_table }
+        ensures k { self.new.k ≡ self.old.k }
+    {
+        match &mut self.address_table {
+            Some(address_table) => age(self.alloc, address_table, out),
+            None => Ok(()),
+        }
+    }
+
+    /// The manager releases an address: where it rests, it is free from now on. Any other stays as it is.
+    pub fn release(&mut self, pmac: Pmac, out: &mut Outbox) -> Result<(), Memory>
+        ensures taken { OnOk result ((v : SwitchView) → IsTaken (frees (edge_in self.old v) pmac (granted (edge_in self.old v) pmac)) (edge_in self.new v) out.old out.new) }
+        ensures place { (place : Place) → place_by self.new.address_table place ≡ place_by self.old.address_table place }
+        ensures k { self.new.k ≡ self.old.k }
+    {
+        match &mut self.address_table {
+            Some(address_table) => address_table.release(pmac, out),
+            None => Ok(()),
+        }
+    }
+
+    // A trap is set for an address. The answer is what was granted under it, where it is not free.
     fn set_trap(&mut self, old: Pmac, to: Trap) -> Result<Option<Grant>, Memory>
-        ensures granted { IfOk result (λ grant. (v : SwitchView) → MayBeAt self.old.address_table v.place → grant ≡ granted (edge_in self.old v) old) }
+        ensures granted { IfOk result (λ grant. (v : SwitchView) → MayBeAt self.old.address_table v.place → grant ≡ held_here (edge_in self.old v) old) }
         ensures set { IfOk result (λ grant. (v : SwitchView) → edge_in self.new v ≡ traps (edge_in self.old v) old to grant) }
         ensures place { (place : Place) → place_by self.new.address_table place ≡ place_by self.old.address_table place }
         ensures k { self.new.k ≡ self.old.k }

@@ -10,6 +10,7 @@ use Rattle.pl_layouts.specs.declared.place.Place.{Place}
 use Rattle.pl_layouts.specs.Control.{control_bytes, control_frame, control_in}
 use Rattle.pl_examples.specs.EdgeExamples.{acts_of, view_after}
 use Rattle.pl_examples.specs.ExampleFrames.{a_starts, bytes_of}
+use Rattle.pl_switch_rule.specs.Aging.{all_age_out}
 use Rattle.pl_switch_rule.specs.Granting.{grants_remembered}
 use Rattle.pl_layouts.specs.Placement.{nowhere}
 use Rattle.pl_examples.specs.SwitchExamples.{aggregation_of, core, edge_at}
@@ -29,7 +30,7 @@ first_message = bytes_of (codes "03504c00000100000000000588b5") ++ bytes_of (cod
 
 its_first_tick : (switch_step by_flow five Tick).acts
     ≡ Control 0 first_message ∷ Control 1 first_message ∷ Control 2 first_message ∷ Control 3 first_message ∷ []
-unfolding control_bytes control_frame decode_pairs
+unfolding all_age_out control_bytes control_frame decode_pairs
 its_first_tick = refl
 
 -- a message of another switch: its place, and whether it has heard switch 5
@@ -85,15 +86,16 @@ abbrev pub message_down : List ℕ
 message_down = bytes_of (codes "03504c00000100000000000588b5") ++ bytes_of (codes "010100000000000501ffffff02000000000001")
 
 it_is_usable_for_two_ticks : take 1 (switch_step by_flow (ticked linked) Tick).acts ≡ Control 0 message_down ∷ []
-unfolding control_bytes control_frame control_in decode_pairs grants_remembered
+unfolding all_age_out control_bytes control_frame control_in decode_pairs grants_remembered
 it_is_usable_for_two_ticks = refl
 
 and_then_it_is_not : take 1 (switch_step by_flow (ticked (ticked linked)) Tick).acts ≡ Tell (Link (switch 1) false) ∷ []
-unfolding control_bytes control_frame control_in grants_remembered
+unfolding all_age_out control_bytes control_frame control_in grants_remembered
 and_then_it_is_not = refl
 
 -- silence gives no level
 silence_is_no_evidence : (ticked (ticked (ticked (ticked five)))).place ≡ nowhere
+unfolding all_age_out
 silence_is_no_evidence = refl
 
 -- A host's frame makes an edge switch, which takes the pod that it was told before; control frames of a host are ignored.

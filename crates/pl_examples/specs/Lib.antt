@@ -9,6 +9,7 @@ pub mod VoteExamples
 pub mod SwitchExamples
 pub mod AccountingExamples
 pub mod EdgeExamples
+pub mod AgingExamples
 pub mod DropExamples
 pub mod DiscoveryExamples
 pub mod HostExamples

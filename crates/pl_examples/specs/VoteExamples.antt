@@ -10,6 +10,7 @@ use Rattle.pl_layouts.specs.declared.control.Vote.{Vote}
 use Rattle.pl_node.specs.declared.messages.ToManager.TheVariants.{Place as TellPlace, PodWanted}
 use Rattle.pl_node.specs.declared.neighbour.PortRecord.{PortRecord}
 use Rattle.pl_layouts.specs.declared.place.Place.{Place}
+use Rattle.pl_switch_rule.specs.Aging.{all_age_out}
 use Rattle.pl_switch_rule.specs.Announcing.{ticks}
 use Rattle.pl_layouts.specs.Control.{control_frame}
 use Rattle.pl_switch_rule.specs.Levels.{changes_to}
@@ -143,4 +144,5 @@ it_frees_what_it_left = refl
 
 -- an edge switch without a position proposes to those that have not granted
 the_others_are_asked : drop 4 (ticks stays).acts ≡ Control 3 (control_frame (control.Proposal (switch 5) (propose 1 0))) ∷ []
+unfolding all_age_out
 the_others_are_asked = refl

@@ -1,5 +1,5 @@
 -- Addresses are in order at boot, and so in every run.
-use Rattle.std.proofs.Common.{◌≡◌, ◌<◌, ◌+◌, ◌^◌, ℕ, zero, suc, List, [], ◌∷◌, ◌++◌, length, replicate, Option, Some, None, slice_get, refl, sym, ap, subst, ◌∙◌, inl, inr, ◌≤◌, arith}
+use Rattle.std.proofs.Common.{◌≡◌, ◌<◌, ◌+◌, ◌^◌, ◌-◌, ◌==◌, ℕ, zero, suc, Bool, true, false, if◌then◌else◌, List, [], ◌∷◌, ◌++◌, length, replicate, Option, Some, None, slice_get, refl, sym, ap, subst, ◌∙◌, inl, inr, ◌≤◌, arith, le_refl}
 use Rattle.std.specs.List.{AllByRecursion}
 use Rattle.std.proofs.lemmas.List.{length-replicate}
 use Rattle.std.proofs.lemmas.Option.{get_or_from_slice_get, none-some, same_Some, slice_get_within}
@@ -17,10 +17,11 @@ use Rattle.pl_node.specs.HostInputs.{HostRule}
 use Rattle.pl_node.specs.HostViews.{HostView, boot_host}
 use Rattle.pl_node.specs.SwitchFacts.{switch_at_boot}
 use Rattle.pl_node.specs.SwitchViews.{SwitchView}
+use Rattle.pl_node.specs.declared.switch_records.Grant.{Grant}
 use Rattle.pl_host_rule.proofs.Exports.{boot_holds_own}
 use Rattle.pl_pmac.specs.declared.pmac.Pmac.{Pmac}
 use Rattle.pl_journal.specs.declared.entry.Entry.{Entry}
-use Rattle.pl_journal.specs.declared.entry.Entry.TheVariants.{Granted}
+use Rattle.pl_journal.specs.declared.entry.Entry.TheVariants.{Freed, Granted}
 use Rattle.pl_manager_rule.specs.ManagerRule.{manager_rule}
 use Rattle.pl_queues.specs.Queues.{items_at}
 use Rattle.pl_switch_rule.specs.SwitchRule.{Loose}
@@ -39,26 +40,30 @@ use Rattle.pl_law_phases.specs.Phases.Phase.{Gone}
 use Rattle.pl_law_phases.specs.Tenures.{orders_of, words_of}
 use Rattle.pl_law_addresses.specs.OwnAddresses.{own_ip}
 use Rattle.pl_law_addresses.specs.OwnFrames.{IsOwnHost, IsOwnItem}
+use Rattle.pl_law_addresses.specs.FreeVmids.{AreFreeVmids, is_free}
 use Rattle.pl_law_addresses.specs.Registries.{registry_of}
 use Rattle.pl_law_addresses.specs.EdgeAddresses.{IsGoodAddressTable, IsGoodEdge, IsGoodOrder, IsGoodWord, edge_of}
-use Rattle.pl_law_addresses.specs.Addressed.{AreApart, AreGrounded, IsGrounded, StayGranted}
+use Rattle.pl_law_addresses.specs.Addressed.{AreApart, AreGrounded, IsGrounded, IsLiveNowhere}
+use Rattle.pl_law_addresses.specs.Standing.{StandsForNothing}
+use Rattle.pl_law_addresses.proofs.Consequences.{stands_for_nothing}
 use Rattle.pl_law_addresses.proofs.EventsKeepAddresses.{facts_of, happens_in_order}
 use Rattle.pl_law_addresses.proofs.TurnQueues.{Parts, one_quiet, parts_of}
 use Rattle.pl_law_addresses.proofs.Entries.{IsNoAddressEntry}
-use Rattle.pl_law_addresses.specs.GrantedOnce.{times_granted}
+use Rattle.pl_law_addresses.specs.GrantedOnce.{times_freed, times_granted}
 use Rattle.pl_law_addresses.specs.InOrder.{AddressesAreInOrder}
-use Rattle.pl_law_addresses.proofs.TurnsKeepAddresses.{InOrder}
+use Rattle.pl_law_addresses.proofs.TurnsKeepAddresses.{Earlier, InOrder, moment_of, no_moment}
 
 -- ---- a step, and a run
 pub mark_quiet : (e : Entry) → IsMark e → IsNoAddressEntry e
 mark_quiet (Granted pmac host switch port) is = absurd is
+mark_quiet (Freed pmac) is = absurd is
 mark_quiet e is = λ x. refl
 
-module _ (first : List SwitchView) (rule : HostRule) (sends : HostsSendData rule) (owns : HostsSendOwn rule) where
+module _ (first : Earlier) (rule : HostRule) (sends : HostsSendData rule) (owns : HostsSendOwn rule) where
   pub step_in_order : (old : WorldView) (e : Event) (new : WorldView) → IsCounted old → IsGrounded old → AreApart new.switches →
       WorldStep Loose manager_rule rule old e new → InOrder first (parts_of old) → InOrder first (parts_of new)
   step_in_order old e new counted grounded apart step o =
-      happens_in_order first (record old { steps = old.steps + 1 }) (facts_of old counted) (record { addressed = o.addressed; own = o.own; since = o.since; once = o.once }) rule sends owns e new
+      happens_in_order first (record old { steps = old.steps + 1 }) (facts_of old counted) (record { addressed = o.addressed; own = o.own; since = o.since; rises = o.rises; given = o.given; once = o.once }) rule sends owns e new
       grounded.neighbours grounded.apart apart step
 
   run_more : (a b c : WorldView) (moments : List Moment) (m : Moment) → WorldRun Loose manager_rule rule a moments b → Befalls Loose manager_rule rule b m c →
@@ -104,10 +109,21 @@ module _ (plan : Plan) (limits : Limits) (is_plan : IsPlan plan) where
     here = λ x reg is at. absurd (none-some reg is);
   }
 
+  none_free : AreFreeVmids [] []
+  none_free = record { listed = λ vmid. sym (no_grant (vmid == 0) vmid); once = tt }
+    where
+      no_grant : (b : Bool) (vmid : ℕ) → is_free (if b then None else slice_get [] (vmid - 1)) ≡ false
+      no_grant true vmid = refl
+      no_grant false vmid = refl
+
   first_address_table : (id : SwitchId) → IsGoodAddressTable (λ mac. own_ip plan mac) (switch_at_boot id plan.k)
   first_address_table id = record {
     many = length-replicate plan.k [];
+    many_freed = length-replicate plan.k [];
     empty = λ unsettled port. nothing_at plan.k port;
+    free = λ port.
+        subst (λ (fs : List ℕ). AreFreeVmids (items_at {T = Grant} (replicate plan.k []) port) fs) (sym (nothing_at plan.k port))
+        (subst (λ (gs : List Grant). AreFreeVmids gs []) (sym (nothing_at plan.k port)) none_free);
     sources = λ port source is. absurd (none-some source (sym (replicated_none plan.k port) ∙ is));
   }
 
@@ -116,7 +132,7 @@ module _ (plan : Plan) (limits : Limits) (is_plan : IsPlan plan) where
       let it : IsHostIp host.ip = subst (λ (q : Host). IsHostIp q.ip) (get_or_from_slice_get plan.hosts h host host at) (is_plan.host_ips h host (slice_get_within plan.hosts h host at)) in
       let few = it.no_group in omega (arith, few)
 
-  pub boots_in_order : InOrder [] (parts_of (booted plan limits))
+  pub boots_in_order : InOrder no_moment (parts_of (booted plan limits))
   boots_in_order = record {
     addressed = record {
       told = record { words = []; knows = refl };
@@ -146,33 +162,63 @@ module _ (plan : Plan) (limits : Limits) (is_plan : IsPlan plan) where
           sends = subst (λ (xs : List Item). AllByRecursion (IsOwnItem (me_of host)) xs) (sym (nothing_at (length plan.hosts) h)) tt;
         });
     since = λ s v is. absurd (none-some v is);
-    once = λ x. inl refl;
+    rises = λ x. omega arith;
+    given = λ x more kept s v is. absurd (none-some v is);
+    once = λ x. inl (omega arith);
   }
 
 pub run_in_order : (rule : HostRule) → HostsSendData rule → HostsSendOwn rule → (plan : Plan) (limits : Limits) → CanBegin plan → AreGrounded rule plan limits →
-    (moments : List Moment) (new : WorldView) → WorldRun Loose manager_rule rule (booted plan limits) moments new → InOrder [] (parts_of new)
+    (moments : List Moment) (new : WorldView) → WorldRun Loose manager_rule rule (booted plan limits) moments new → InOrder no_moment (parts_of new)
 run_in_order rule sends owns plan limits can grounded moments new run =
-    from_there [] rule sends owns plan limits can grounded [] (booted plan limits) refl (boots_in_order plan limits can.is_plan) moments new run
+    from_there no_moment rule sends owns plan limits can grounded [] (booted plan limits) refl (boots_in_order plan limits can.is_plan) moments new run
+
+-- seen from itself
+pub from_itself : (w : WorldView) (first : Earlier) → InOrder first (parts_of w) → InOrder (moment_of w) (parts_of w)
+from_itself w first o = record {
+  addressed = o.addressed;
+  own = o.own;
+  since = λ s v is. record { view = v; found = is; keeps = λ x mac kept h. h; place = λ settled. refl };
+  rises = λ x. le_refl (times_freed x w.journal);
+  given = λ x more kept. absurd (omega (arith, more));
+  once = o.once;
+}
 
 -- from one moment of a run to a later one
 pub since_then : (rule : HostRule) → HostsSendData rule → HostsSendOwn rule → (plan : Plan) (limits : Limits) → CanBegin plan → AreGrounded rule plan limits →
     (moments more : List Moment) (old new : WorldView) → WorldRun Loose manager_rule rule (booted plan limits) moments old → WorldRun Loose manager_rule rule old more new →
-    StayGranted old.switches new.switches
+    InOrder (moment_of old) (parts_of new)
 since_then rule sends owns plan limits can grounded moments more old new run rest =
     let o = run_in_order rule sends owns plan limits can grounded moments old run in
-    (from_there old.switches rule sends owns plan limits can grounded moments old run
-    (record { addressed = o.addressed; own = o.own; since = λ s v is. record { view = v; found = is; keeps = λ x mac h. h; place = λ settled. refl }; once = o.once }) more new rest).since
+    from_there (moment_of old) rule sends owns plan limits can grounded moments old run (from_itself old no_moment o) more new rest
 
--- no address is granted twice
+-- no address is granted again before it was freed
 pub granted_at_most_once : (rule : HostRule) → HostsSendData rule → HostsSendOwn rule → (plan : Plan) (limits : Limits) → CanBegin plan → AreGrounded rule plan limits →
-    (moments : List Moment) (new : WorldView) → WorldRun Loose manager_rule rule (booted plan limits) moments new → (x : Pmac) → times_granted x new.journal ≤ 1
+    (moments : List Moment) (new : WorldView) → WorldRun Loose manager_rule rule (booted plan limits) moments new → (x : Pmac) →
+    times_granted x new.journal ≤ times_freed x new.journal + 1
 granted_at_most_once rule sends owns plan limits can grounded moments new run x =
-    elim ((run_in_order rule sends owns plan limits can grounded moments new run).once x) [ inl none ↦ omega (arith, none) | inr one ↦ (let is = one.0 in omega (arith, is)) ]
+    elim ((run_in_order rule sends owns plan limits can grounded moments new run).once x) [ inl few ↦ omega (arith, few) | inr one ↦ (let is = one.0 in omega (arith, is)) ]
+
+-- what is granted stood for nothing, where it was not freed in between
+pub granted_for_nothing : (rule : HostRule) → HostsSendData rule → HostsSendOwn rule → (plan : Plan) (limits : Limits) → CanBegin plan → AreGrounded rule plan limits →
+    (moments more : List Moment) (old new : WorldView) (x : Pmac) → WorldRun Loose manager_rule rule (booted plan limits) moments old → WorldRun Loose manager_rule rule old more new →
+    times_granted x old.journal < times_granted x new.journal → times_freed x new.journal ≡ times_freed x old.journal → IsLiveNowhere old.switches x × StandsForNothing old x
+granted_for_nothing rule sends owns plan limits can grounded moments more old new x run rest given freed =
+    let o = run_in_order rule sends owns plan limits can grounded moments old run in
+    let later = since_then rule sends owns plan limits can grounded moments more old new run rest in
+    let none = later.given x given freed in
+    (none, stands_for_nothing old o.addressed x none)
 
 -- one step
 pub one_step : (rule : HostRule) → HostsSendData rule → HostsSendOwn rule → (old : WorldView) (e : Event) (new : WorldView) → IsCounted old → IsGrounded old →
     AreApart new.switches → WorldStep Loose manager_rule rule old e new → AddressesAreInOrder old → AddressesAreInOrder new
 one_step rule sends owns old e new counted grounded apart step o =
-    let n = step_in_order [] rule sends owns old e new counted grounded apart step
-    (record { addressed = o.addressed; own = o.own; since = λ s v is. absurd (none-some v is); once = o.once }) in
+    let n = step_in_order no_moment rule sends owns old e new counted grounded apart step
+    (record {
+      addressed = o.addressed;
+      own = o.own;
+      since = λ s v is. absurd (none-some v is);
+      rises = λ x. omega arith;
+      given = λ x more kept s v is. absurd (none-some v is);
+      once = o.once;
+    }) in
     record { addressed = n.addressed; own = n.own; once = n.once }

@@ -11,12 +11,13 @@ use Rattle.pl_node.specs.declared.messages.ToManager.{ToManager}
 use Rattle.pl_node.specs.declared.messages.ToManager.TheVariants as tell
 use Rattle.pl_node.specs.declared.messages.ToSwitch.{ToSwitch}
 use Rattle.pl_node.specs.declared.messages.ToSwitch.TheVariants as say
+use Rattle.pl_node.specs.AddressUses.{is_held}
 use Rattle.pl_node.specs.declared.switch_records.Grant.{Grant}
 use Rattle.pl_node.specs.ManagerViews.{Registration}
 use Rattle.pl_law_addresses.specs.Registries.{LeadsToNewer, Registry}
 use Rattle.pl_law_phases.specs.Phases.{Phase}
 use Rattle.pl_law_phases.specs.Tenures.{order_of, orders_of, words_of}
-use Rattle.pl_law_addresses.specs.EdgeAddresses.{Edge, IsGoodEdge, IsGoodGrant, IsGoodOrder, IsGoodWord, KeepsGrantees, tells_ip, tenure_at}
+use Rattle.pl_law_addresses.specs.EdgeAddresses.{Edge, IsGoodEdge, IsGoodGrant, IsGoodOrder, IsGoodWord, KeepsHolders, tells_ip, tenure_at}
 use Rattle.pl_law_addresses.proofs.AddressLemmas.{any_before, is_or_other}
 use Rattle.pl_law_addresses.proofs.PhasesStay.{knows_same, phase_kept, words_aside}
 
@@ -37,31 +38,37 @@ leads_kept r n keeps old new number mac leads = record {
 }
 
 module _ (own : Mac → Option Ip4) where
-  word_kept : (f g : Pmac → Option Grant) → KeepsGrantees f g → (word : ToManager) → IsGoodWord own f word → IsGoodWord own g word
+  word_kept : (f g : Pmac → Option Grant) → KeepsHolders f g → (word : ToManager) → IsGoodWord own f word → IsGoodWord own g word
   word_kept f g keeps (tell.Learned x amac ip) is = (keeps x amac is.0, is.1)
   word_kept f g keeps (tell.Place place) is = tt
   word_kept f g keeps (tell.Link u usable) is = tt
   word_kept f g keeps tell.PodWanted is = tt
+  word_kept f g keeps (tell.Aged x number) is = (is.0, keeps x is.0 is.1)
   word_kept f g keeps (tell.Query asker asker_ip ip) is = tt
   word_kept f g keeps (tell.Members group any) is = tt
 
-  pub words_kept : (f g : Pmac → Option Grant) → KeepsGrantees f g → (words : List ToManager) → AllByRecursion (IsGoodWord own f) words →
+  pub words_kept : (f g : Pmac → Option Grant) → KeepsHolders f g → (words : List ToManager) → AllByRecursion (IsGoodWord own f) words →
       AllByRecursion (IsGoodWord own g) words
   words_kept f g keeps [] all = tt
   words_kept f g keeps (word ∷ words) all = (word_kept f g keeps word all.0, words_kept f g keeps words all.1)
 
-  order_kept : (f g : Pmac → Option Grant) → KeepsGrantees f g → (order : ToSwitch) → IsGoodOrder own f order → IsGoodOrder own g order
+  order_kept : (f g : Pmac → Option Grant) → KeepsHolders f g → (order : ToSwitch) → IsGoodOrder own f order → IsGoodOrder own g order
   order_kept f g keeps (say.Invalidate old new number ip) is = record { mac = is.mac; granted_to = keeps old is.mac is.granted_to; own_ip = is.own_ip }
+  order_kept f g keeps (say.Release x) is = (is.0, keeps x is.0 is.1)
   order_kept f g keeps (say.Pod pod) is = tt
   order_kept f g keeps (say.Answer asker asker_ip ip pmac) is = tt
   order_kept f g keeps (say.Flood asker asker_ip ip) is = tt
   order_kept f g keeps (say.Avoid list) is = tt
   order_kept f g keeps (say.Tree group part) is = tt
 
-  pub orders_kept : (f g : Pmac → Option Grant) → KeepsGrantees f g → (orders : List ToSwitch) →
+  pub orders_kept : (f g : Pmac → Option Grant) → KeepsHolders f g → (orders : List ToSwitch) →
       AllByRecursion (IsGoodOrder own f) orders → AllByRecursion (IsGoodOrder own g) orders
   orders_kept f g keeps [] all = tt
   orders_kept f g keeps (order ∷ orders) all = (order_kept f g keeps order all.0, orders_kept f g keeps orders all.1)
+
+-- where an address is somebody's, it is that host's once this is granted under it
+abbrev pub StaysTo : (Pmac → Option Grant) → Pmac → Grant → Type 0
+StaysTo granted x g = (h : Grant) → granted x ≡ Some h → is_held h.held ≡ true → (is_held g.held ≡ true) × (g.amac ≡ h.amac)
 
 module _ (own : Mac → Option Ip4) (r : Registry) where
   -- a grant stays good where no less is told
@@ -100,18 +107,21 @@ module _ (own : Mac → Option Ip4) (r : Registry) where
   -- one address is changed
   module _ (e : Edge) (good : IsGoodEdge own r e) (x : Pmac) (g : Grant) (f : Pmac → Option Grant) (more : List ToManager) (down : List ToSwitch) (here : e.at x ≡ true)
       (now : f x ≡ Some g) (others : (y : Pmac) → same_pmac y x ≡ false → f y ≡ e.granted y) where
-    pub keeps_grantees : ((h : Grant) → e.granted x ≡ Some h → g.amac ≡ h.amac) → KeepsGrantees e.granted f
-    keeps_grantees same y mac is = elim (is_or_other y x) [
-      | inl it ↦ record { grant = g; found = ap f it ∙ now; to = same is.grant (ap e.granted (sym it) ∙ is.found) ∙ is.to }
-      | inr other ↦ record { grant = is.grant; found = others y other ∙ is.found; to = is.to }
+    -- what was somebody's there is that host's still
+    pub keeps_holders : StaysTo e.granted x g → KeepsHolders e.granted f
+    keeps_holders stays y mac is = elim (is_or_other y x) [
+      | inl it ↦
+          let still = stays is.grant (ap e.granted (sym it) ∙ is.found) is.held in
+          record { grant = g; found = ap f it ∙ now; held = still.0; to = still.1 ∙ is.to }
+      | inr other ↦ record { grant = is.grant; found = others y other ∙ is.found; held = is.held; to = is.to }
     ]
 
-    pub changed : ((h : Grant) → e.granted x ≡ Some h → g.amac ≡ h.amac) → AllByRecursion (IsGoodWord own f) more →
+    pub changed : StaysTo e.granted x g → AllByRecursion (IsGoodWord own f) more →
         AllByRecursion (IsGoodOrder own e.granted) down →
         ((y : Pmac) → same_pmac y x ≡ false → words_of y more ≡ []) → ((y : Pmac) → same_pmac y x ≡ false → orders_of y down ≡ orders_of y e.down) →
         IsGoodGrant own r (e.up ++ more) x g → Phase (tenure_at r (record e { granted = f; up = e.up ++ more; down = down }) x) →
         IsGoodEdge own r (record e { granted = f; up = e.up ++ more; down = down })
-    changed same words orders silent kept new phase = record {
+    changed stays words orders silent kept new phase = record {
       placed = λ y h is. elim (is_or_other y x) [
         | inl it ↦ ap e.at it ∙ here
         | inr other ↦ good.placed y h (sym (others y other) ∙ is)
@@ -128,7 +138,7 @@ module _ (own : Mac → Option Ip4) (r : Registry) where
             phase_kept r r e (record e { granted = f; up = e.up ++ more; down = down }) y (knows_same r y) (others y other) (words_aside y e.up more (silent y other))
             (kept y other) (good.phases y at)
       ];
-      words = all_append (IsGoodWord own f) e.up more (words_kept own e.granted f (keeps_grantees same) e.up good.words) words;
-      orders = orders_kept own e.granted f (keeps_grantees same) down orders;
-      here = λ y reg is at. let h = good.here y reg is at in record { teller = h.teller; granted_to = keeps_grantees same y reg.amac h.granted_to };
+      words = all_append (IsGoodWord own f) e.up more (words_kept own e.granted f (keeps_holders stays) e.up good.words) words;
+      orders = orders_kept own e.granted f (keeps_holders stays) down orders;
+      here = λ y reg is at. let h = good.here y reg is at in record { teller = h.teller; granted_to = keeps_holders stays y reg.amac h.granted_to };
     }

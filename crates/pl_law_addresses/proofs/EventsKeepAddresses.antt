@@ -48,8 +48,8 @@ use Rattle.pl_law_addresses.specs.Addressed.{AreApart, KnowNeighbours}
 use Rattle.pl_law_addresses.proofs.OwnHosts.{own_frame, shorter_own}
 use Rattle.pl_law_addresses.proofs.SwitchSteps.{Brings, IsOfHost, brings_frame, brings_order, brings_tick}
 use Rattle.pl_law_addresses.proofs.TurnQueues.{Parts, one_quiet, parts_of}
-use Rattle.pl_law_addresses.proofs.Entries.{IsNoAddressEntry, quiet_ends, quiet_times}
-use Rattle.pl_law_addresses.proofs.TurnsKeepAddresses.{InOrder, delivers_to_manager, exists_at, filled_within, host_turn, switch_turn}
+use Rattle.pl_law_addresses.proofs.Entries.{IsNoAddressEntry, quiet_ends, quiet_freed, quiet_times}
+use Rattle.pl_law_addresses.proofs.TurnsKeepAddresses.{Earlier, InOrder, delivers_to_manager, exists_at, filled_within, host_turn, switch_turn}
 
 -- what is known of the forms of a world
 pub record Facts (w : WorldView) : Type 0 where
@@ -91,6 +91,7 @@ emptied_host_same : (u : WorldView) (h : ℕ) (c : Cause) → parts_of (emptied_
 emptied_host_same u h c = λ i. record (parts_of u) {
   from_hosts = set u.from_hosts h [];
   times = λ x. quiet_times u.journal (ends_of c (items_at u.from_hosts h)) (quiet_ends c (items_at u.from_hosts h)) x i;
+  freed = λ x. quiet_freed u.journal (ends_of c (items_at u.from_hosts h)) (quiet_ends c (items_at u.from_hosts h)) x i;
 }
 
 moved_same : (u : WorldView) (h : ℕ) (from to : AttachmentPoint) → parts_of (host_moved u h from to) ≡ record (parts_of u) { from_hosts = set u.from_hosts h [] }
@@ -101,7 +102,7 @@ moved_same u h from to =
     ∙ ap (λ (p : Parts). record p { from_hosts = set p.from_hosts h [] })
     (one_quiet (record u { attachments = set u.attachments h to; heard = set u.heard h None }) (Moved (host_no h) to.edge to.port) (λ x. refl))
 
-module _ (first : List SwitchView) where
+module _ (first : Earlier) where
   -- ---- an item comes at a switch
   comes_at : (w : WorldView) (s port : ℕ) (item : Item) (new : WorldView) → InOrder first (parts_of w) → length w.to_manager ≡ length w.switches → AreApart new.switches → IsItem item →
       ((id : ℕ) (frame : List ℕ) → item ≡ Data id frame → (v : SwitchView) → slice_get w.switches s ≡ Some v → is_open_to_hosts (port_of v port) ≡ true →
@@ -141,6 +142,8 @@ module _ (first : List SwitchView) where
           addressed = o.addressed;
           own = shorter_own w.plan w.hosts w.from_hosts h items (λ P all. (subst (λ (xs : List Item). AllByRecursion P xs) head all).1) within o.own;
           since = o.since;
+          rises = o.rises;
+          given = o.given;
           once = o.once;
         } in
         comes_at (heard_item popped h (Data id frame)) attachment.edge.0 attachment.port (Data id frame) new order f.ups apart frames
@@ -181,7 +184,7 @@ module _ (first : List SwitchView) where
       over_link s port q item items to new head know apart peer comes =
           let all = (subst (λ (xs : List Item). AllByRecursion IsItem xs) head (all_items_at IsItem w.out (port_index w.plan.k s port) f.port_items)).0 in
           comes_at (record w { out = set w.out (port_index w.plan.k s port) items }) to.0 q item new
-          (record { addressed = o.addressed; own = o.own; since = o.since; once = o.once }) f.ups apart all
+          (record { addressed = o.addressed; own = o.own; since = o.since; rises = o.rises; given = o.given; once = o.once }) f.ups apart all
           (λ id frame same v found host_port.
           absurd (false≢true (sym (know s port to q id frame v peer
           (subst (λ (xs : List Item). Contains xs (Data id frame)) (sym head) (subst (λ (i : Item). Contains (item ∷ items) i) same (Contains-append_left (item ∷ []) items item (Contains-push [] item)))) found) ∙ host_port))) comes
@@ -193,7 +196,7 @@ module _ (first : List SwitchView) where
           let u : WorldView = record w { from_manager = set w.from_manager s items } in
           let within = filled_within w.from_manager s says items is in
           let now : items_at (set w.from_manager s items) s ≡ items = get_or-set_same w.from_manager s items [] within in
-          switch_turn first u s (Says says) _ new w.from_manager (record { addressed = o.addressed; own = o.own; since = o.since; once = o.once }) (λ t other. get_or-set_other w.from_manager s t items [] other) f.ups apart
+          switch_turn first u s (Says says) _ new w.from_manager (record { addressed = o.addressed; own = o.own; since = o.since; rises = o.rises; given = o.given; once = o.once }) (λ t other. get_or-set_other w.from_manager s t items [] other) f.ups apart
           (λ v found choose.
           subst (λ (xs : List ToSwitch). Brings (λ mac. own_ip w.plan mac) (registry_of w.manager.learnt) (slice_get w.plan.ids s) choose xs (items_at u.from_manager s) v (switch_step choose v (Says says))) (sym is)
           (subst (λ (xs : List ToSwitch). Brings (λ mac. own_ip w.plan mac) (registry_of w.manager.learnt) (slice_get w.plan.ids s) choose (says ∷ items) xs v (switch_step choose v (Says says))) (sym now)
@@ -202,7 +205,7 @@ module _ (first : List SwitchView) where
       -- ---- all else
       ticks_on : (s : ℕ) (new : WorldView) → AreApart new.switches → SwitchTurn Loose (record w { heard = heard_after_tick s w.attachments w.heard }) s Tick Silent new → InOrder first (parts_of new)
       ticks_on s new apart turn =
-          switch_turn first (record w { heard = heard_after_tick s w.attachments w.heard }) s Tick _ new w.from_manager (record { addressed = o.addressed; own = o.own; since = o.since; once = o.once }) (λ t other. refl) f.ups apart
+          switch_turn first (record w { heard = heard_after_tick s w.attachments w.heard }) s Tick _ new w.from_manager (record { addressed = o.addressed; own = o.own; since = o.since; rises = o.rises; given = o.given; once = o.once }) (λ t other. refl) f.ups apart
           (λ v found choose. brings_tick (λ mac. own_ip w.plan mac) (registry_of w.manager.learnt) (slice_get w.plan.ids s) choose (items_at w.from_manager s) v) turn
 
       -- where these parts are the same
@@ -214,7 +217,7 @@ module _ (first : List SwitchView) where
           let within : h < length w.from_hosts = subst (λ n. h < n) (sym f.froms) (slice_get_within w.hosts h turn.before turn.found) in
           host_turn first rule sends owns (host_moved w h from to) h _ _ new
           (subst (λ (p : Parts). InOrder first p) (sym (moved_same w h from to))
-          (record { addressed = o.addressed; own = shorter_own w.plan w.hosts w.from_hosts h [] (λ P all. tt) within o.own; since = o.since; once = o.once })) f.holding
+          (record { addressed = o.addressed; own = shorter_own w.plan w.hosts w.from_hosts h [] (λ P all. tt) within o.own; since = o.since; rises = o.rises; given = o.given; once = o.once })) f.holding
           (length-set w.from_hosts h [] ∙ f.froms) turn
 
       module _ (e : Event) (new : WorldView) (know : KnowNeighbours w) (before : AreApart w.switches) (apart : AreApart new.switches) where

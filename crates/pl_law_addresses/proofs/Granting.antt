@@ -1,8 +1,8 @@
 -- An edge switch grants addresses and learns IPv4 addresses.
-use Rattle.std.proofs.Common.{◌≡◌, ◌≤◌, ◌<◌, ◌+◌, ◌-◌, ℕ, ◌⊎◌, ◌||◌, zero, suc, Bool, true, false, if◌then◌else◌, get_or, set, List, [], ◌∷◌, ◌++◌, length, Option, Some, None, refl, sym, ap, subst, ◌∙◌, inl, inr, arith, get_or-set_other, length-set, append-nil}
+use Rattle.std.proofs.Common.{◌≡◌, ◌≤◌, ◌<◌, ◌+◌, ◌-◌, ℕ, ◌⊎◌, ◌||◌, zero, suc, Bool, true, false, if◌then◌else◌, get_or, set, List, [], ◌∷◌, ◌++◌, length, Option, Some, None, refl, sym, ap, subst, subst₂, ◌∙◌, inl, inr, arith, get_or-set_other, append-nil}
 use Rattle.std.specs.List.{AllByRecursion, list_any}
 use Rattle.std.specs.Option.{option_map}
-use Rattle.std.proofs.lemmas.Bool.{and_from, cases_eq, cond_both, false≢true}
+use Rattle.std.proofs.lemmas.Bool.{and_from, cases_eq, cond_both}
 use Rattle.std.proofs.lemmas.Option.{none-some, same_Some}
 use Rattle.pl_frame.specs.declared.address.Ip4.{Ip4}
 use Rattle.pl_frame.specs.declared.address.Mac.{Mac}
@@ -14,7 +14,10 @@ use Rattle.pl_layouts.specs.Equality.{is_ip, same_mac, same_pmac}
 use Rattle.pl_layouts.specs.Placement.{is_known, is_placed}
 use Rattle.pl_layouts.proofs.Exports.{mac_is, pmac_itself}
 use Rattle.pl_node.specs.declared.acts.Act.TheVariants as act
+use Rattle.pl_node.specs.AddressUses.{is_held, is_in_use, standing_trap}
+use Rattle.pl_node.specs.declared.acts.Act.{Act}
 use Rattle.pl_node.specs.declared.address_use.AddressUse.{AddressUse}
+use Rattle.pl_node.specs.declared.address_use.AddressUse.TheVariants.{InUse}
 use Rattle.pl_node.specs.declared.messages.ToManager.{ToManager}
 use Rattle.pl_node.specs.declared.messages.ToManager.TheVariants as tell
 use Rattle.pl_node.specs.declared.messages.ToSwitch.{ToSwitch}
@@ -22,29 +25,24 @@ use Rattle.pl_node.specs.declared.switch_records.Grant.{Grant}
 use Rattle.pl_node.specs.declared.switch_records.Source.{Source}
 use Rattle.pl_node.specs.SwitchViews.{SwitchView}
 use Rattle.pl_steps.specs.Steps.{SwitchStep, rests, ◌▹◌}
-use Rattle.pl_switch_rule.specs.Granting.{address_at_port, forgets, grant_number, granted, grants_at, grants_next, grants_or_learns, grants_remembered, grants_source, in_use, is_local, is_port_spent, learns_ip, learns_source, new_grant, or_else, remembered_at, remembered_ip, remembers, sender_ip, with_grant, with_grants}
+use Rattle.pl_switch_rule.specs.Granting.{address_at_port, all_but_first, behind, forgets, freed_at, grant_number, granted, grants_at, grants_new, grants_next, grants_or_learns, grants_remembered, grants_source, in_use, is_local, learns_ip, learns_source, new_grant, next_vmid, or_else, remembered_at, remembered_ip, remembers, sender_ip, uses, with_grants, with_next}
 use Rattle.pl_law_addresses.specs.OwnAddresses.{IsOwnIp}
 use Rattle.pl_law_addresses.specs.Registries.{Registry}
 use Rattle.pl_law_phases.specs.Phases.{Phase}
-use Rattle.pl_law_phases.specs.Tenures.{is_held, words_of}
+use Rattle.pl_law_phases.specs.Tenures.{words_of}
 use Rattle.pl_law_phases.specs.Tenures.Told.{Learns}
-use Rattle.pl_law_phases.proofs.Exports.{granted_phase, in_use_for, told_phase}
+use Rattle.pl_law_phases.proofs.Exports.{granted_phase, in_use_for, told_phase, used_phase}
+use Rattle.pl_law_addresses.specs.FreeVmids.{AreFreeVmids}
 use Rattle.pl_law_addresses.specs.EdgeAddresses.{IsGoodAddressTable, edge_of, is_settled, tells_ip, tenure_at}
-use Rattle.pl_law_addresses.proofs.AddressLemmas.{any_behind, other_turned}
-use Rattle.pl_law_addresses.proofs.ChangesKeepAddresses.{changed, keeps_grantees}
-use Rattle.pl_law_addresses.proofs.GrantsByNumber.{IsInUse, granted_here, local_here, now_at, number_past, number_push_other, number_push_same, number_set_other, number_set_same, number_within, others_at, used_is}
-use Rattle.pl_law_addresses.proofs.PhasesStay.{other_word, phase_told}
-use Rattle.pl_law_addresses.proofs.RowsLeaveAddresses.{Good, Grows, Keeps, keeps_either, keeps_then, rests_keeps}
+use Rattle.pl_law_addresses.proofs.AddressLemmas.{any_before, any_behind, other_turned}
+use Rattle.pl_law_addresses.proofs.ChangesKeepAddresses.{StaysTo, changed, keeps_holders}
+use Rattle.pl_law_addresses.proofs.FreeLists.{held_free, next_granted, table_alike, table_with_free, table_with_grants, unheld_there}
+use Rattle.pl_law_addresses.proofs.GrantsByNumber.{IsInUse, granted_here, local_here, now_at, number_set_other, number_set_same, number_within, others_at, used_is}
+use Rattle.pl_law_addresses.proofs.PhasesStay.{other_word, phase_held, phase_told}
+use Rattle.pl_law_addresses.proofs.RowsLeaveAddresses.{Good, Grows, Keeps, SaysSo, free_acts, grant_acts, keeps_either, keeps_then, rests_keeps}
 
 -- ---- the lists of a switch
 module _ (own : Mac → Option Ip4) where
-  pub address_table_with_grants : (v : SwitchView) (port : ℕ) (new : List Grant) → is_settled v.place ≡ true → IsGoodAddressTable own v → IsGoodAddressTable own (with_grants v port new)
-  address_table_with_grants v port new settled b = record {
-    many = length-set v.grants port new ∙ b.many;
-    empty = λ unsettled at. absurd (false≢true (sym unsettled ∙ settled));
-    sources = b.sources;
-  }
-
   IsKept : Option Source → Type 0
   IsKept None = Unit {0}
   IsKept (Some source) = IsOwnIp own source.amac source.ip
@@ -59,7 +57,9 @@ module _ (own : Mac → Option Ip4) where
       IsGoodAddressTable own (record v { remembered = set v.remembered port new })
   address_table_with_source v port new is_own b = record {
     many = b.many;
+    many_freed = b.many_freed;
     empty = b.empty;
+    free = b.free;
     sources = λ at source is. elim (cases_eq at port) [
       | inr other ↦ b.sources at source (sym (get_or-set_other v.remembered port at new None other) ∙ is)
       | inl here ↦
@@ -82,13 +82,17 @@ learning_stays : (v : SwitchView) (x : Pmac) (g : Option Grant) (ip : Option Ip4
 learning_stays v x None ip = (refl, refl)
 learning_stays v x (Some g) None = (refl, refl)
 learning_stays v x (Some g) (Some ip) =
-    cond_both (is_ip g.ip ip) (rests v)
-    (record { view = with_grant v x (record g { ip = Some ip }); acts = act.Tell (tell.Learned x g.amac (Some ip)) ∷ [] }) (StaysWith v)
+    cond_both (is_ip g.ip ip) (rests (uses v x g))
+    (record { view = uses v x (record g { ip = Some ip }); acts = act.Tell (tell.Learned x g.amac (Some ip)) ∷ [] }) (StaysWith v)
     (λ same. (refl, refl)) (λ new. (refl, refl))
+
+next_stays : (v : SwitchView) (port : ℕ) (mac : Mac) (ip : Option Ip4) (o : Option ℕ) → StaysWith v (grants_next v port mac ip o)
+next_stays v port mac ip None = (refl, refl)
+next_stays v port mac ip (Some vmid) = (refl, refl)
 
 mac_stays : (v : SwitchView) (port : ℕ) (mac : Mac) (ip : Option Ip4) (o : Option ℕ) → StaysWith v (grants_or_learns v port mac ip o)
 mac_stays v port mac ip (Some vmid) = learning_stays v (address_at_port v port vmid) (grant_number (grants_at v port) vmid) ip
-mac_stays v port mac ip None = cond_both (is_port_spent v port) (rests v) (grants_next v port mac ip) (StaysWith v) (λ spent. (refl, refl)) (λ room. (refl, refl))
+mac_stays v port mac ip None = next_stays v port mac ip (next_vmid (freed_at v port) (grants_at v port))
 
 source_stays : (v : SwitchView) (port : ℕ) (o : Option Source) → StaysWith v (grants_source v port o)
 source_stays v port None = (refl, refl)
@@ -96,149 +100,212 @@ source_stays v port (Some s) = mac_stays v port s.amac s.ip (in_use (grants_at v
 
 module _ (own : Mac → Option Ip4) (r : Registry) (id : Option SwitchId) (down : List ToSwitch) where
   -- ---- the next address of a port
-  module _ (v : SwitchView) (port : ℕ) (mac : Mac) (ip : Option Ip4) (settled : is_settled v.place ≡ true) (within : port < v.k)
-      (is_own : IsOwnIp own mac ip) where
-    x : Pmac
-    x = address_at_port v port (length (grants_at v port) + 1)
+  module _ (v : SwitchView) (port : ℕ) (mac : Mac) (ip : Option Ip4) (vmid : ℕ) (settled : is_settled v.place ≡ true) (within : port < v.k)
+      (is_own : IsOwnIp own mac ip) (is_next : next_vmid (freed_at v port) (grants_at v port) ≡ Some vmid) where
+    abbrev x : Pmac
+    x = address_at_port v port vmid
 
-    new : List Grant
-    new = grants_at v port ++ new_grant mac ip ∷ []
+    abbrev new : List Grant
+    new = with_next (freed_at v port) (grants_at v port) (new_grant mac ip)
 
-    word : ToManager
+    abbrev word : ToManager
     word = tell.Learned x mac ip
 
-    next_good : (up : List ToManager) → Good own r id down v up → Good own r id down (with_grants v port new) (up ++ word ∷ [])
-    unfolding x new word
-    next_good up good =
-        let many : port < length v.grants = subst (λ n. port < n) (sym good.address_table.many) within in
-        let here : is_local v x ≡ true = local_here v port (length (grants_at v port) + 1) settled in
-        let now : granted (with_grants v port new) x ≡ Some (new_grant mac ip) = now_at v x new many here ∙ number_push_same (grants_at v port) (new_grant mac ip) in
-        let others : (y : Pmac) → same_pmac y x ≡ false → granted (with_grants v port new) y ≡ granted v y =
-        others_at v x new many here (number_push_other (grants_at v port) (new_grant mac ip)) in
-        let before : granted v x ≡ None → Good own r id down (with_grants v port new) (up ++ word ∷ []) = λ none.
+    here : is_local v x ≡ true
+    here = local_here v port vmid settled
+
+    -- it was nobody's, and is this host's then
+    record IsGivenNow : Type 0 where
+      now : granted (with_grants v port new) x ≡ Some (new_grant mac ip)
+      others : (y : Pmac) → same_pmac y x ≡ false → granted (with_grants v port new) y ≡ granted v y
+      unheld : (h : Grant) → granted v x ≡ Some h → is_held h.held ≡ true → ⊥
+      left : AreFreeVmids new (all_but_first (freed_at v port))
+
+    given_now : IsGoodAddressTable own v → IsGivenNow
+    given_now table =
+        let many : port < length v.grants = subst (λ n. port < n) (sym table.many) within in
+        let n = next_granted (grants_at v port) (freed_at v port) vmid (new_grant mac ip) (table.free port) refl is_next in
         record {
-          edge = changed own r (edge_of id v up down) good.edge x (new_grant mac ip) (λ y. granted (with_grants v port new) y) (word ∷ []) down here now others
-              (λ h is. absurd (none-some h (sym none ∙ is)))
-              ((record { grant = new_grant mac ip; found = now; to = refl }, is_own), tt)
+          now = now_at v x new many here ∙ n.now;
+          others = others_at v x new many here n.others;
+          unheld = λ h is held. n.unheld h (sym (granted_here v x here) ∙ is) held;
+          left = n.left;
+        }
+
+    next_good : (up : List ToManager) → Good own r id down v up → Good own r id down (grants_new v port mac ip x).view (up ++ word ∷ [])
+    next_good up good =
+        let it = given_now good.address_table in
+        let e = edge_of id v up down in
+        record {
+          edge = changed own r e good.edge x (new_grant mac ip) (λ y. granted (with_grants v port new) y) (word ∷ []) down here it.now it.others
+              (λ h is held. absurd (it.unheld h is held))
+              ((record { grant = new_grant mac ip; found = it.now; held = refl; to = refl }, is_own), tt)
               good.edge.orders (λ y other. other_word x y mac ip (other_turned y x other)) (λ y other. refl)
               (record {
                 own_ip = is_own;
                 told_ip = λ used j is. inr (any_behind (tells_ip x) up (word ∷ []) (ip_told ip j is));
                 trap_ip = λ trap is. absurd (none-some trap is);
               })
-              (phase_told r (edge_of id v up down) x (new_grant mac ip) (λ y. granted (with_grants v port new) y) mac ip now
-              (granted_phase (tenure_at r (edge_of id v up down) x) (good.edge.phases x here)
-              (ap (λ (o : Option Grant). is_held (option_map (λ (g : Grant). g.held) o)) none)));
-          address_table = address_table_with_grants own v port new settled good.address_table;
-        } in
-        before (granted_here v x here ∙ number_past (grants_at v port))
+              (phase_told r e x (new_grant mac ip) (λ y. granted (with_grants v port new) y) mac ip it.now
+              (granted_phase (tenure_at r e x) (good.edge.phases x here) (unheld_there (granted v x) it.unheld)));
+          address_table = table_alike own (record (with_grants v port new) { freed = set v.freed port (all_but_first (freed_at v port)) }) (grants_new v port mac ip x).view
+              refl refl refl refl refl (table_with_free own v port new settled within good.address_table (all_but_first (freed_at v port)) it.left);
+        }
       where
         ip_told : (i : Option Ip4) (j : Ip4) → i ≡ Some j → list_any (tells_ip x) (tell.Learned x mac i ∷ []) ≡ true
         ip_told None j is = absurd (none-some j is)
         ip_told (Some i) j is = ap (λ b. b || false) (pmac_itself x)
 
-    next_grows : (up : List ToManager) → Good own r id down v up → Grows v (grants_next v port mac ip)
-    unfolding x new word
+    next_grows : (up : List ToManager) → Good own r id down v up → Grows v (grants_new v port mac ip x)
     next_grows up good =
-        let many : port < length v.grants = subst (λ n. port < n) (sym good.address_table.many) within in
-        let here : is_local v x ≡ true = local_here v port (length (grants_at v port) + 1) settled in
-        let now : granted (with_grants v port new) x ≡ Some (new_grant mac ip) = now_at v x new many here ∙ number_push_same (grants_at v port) (new_grant mac ip) in
-        let others : (y : Pmac) → same_pmac y x ≡ false → granted (with_grants v port new) y ≡ granted v y =
-        others_at v x new many here (number_push_other (grants_at v port) (new_grant mac ip)) in
-        let none : granted v x ≡ None = granted_here v x here ∙ number_past (grants_at v port) in
+        let it = given_now good.address_table in
         record {
-          stays = keeps_grantees own r (edge_of id v up down) good.edge x (new_grant mac ip) (λ y. granted (with_grants v port new) y) [] down here now others
-              (λ h is. absurd (none-some h (sym none ∙ is)));
+          stays = keeps_holders own r (edge_of id v up down) good.edge x (new_grant mac ip) (λ y. granted (with_grants v port new) y) [] down here it.now it.others
+              (λ h is held. absurd (it.unheld h is held));
           once = λ z. one_at_most (same_pmac x z);
-          fresh = ((none, record { grant = new_grant mac ip; found = now; to = refl }), (tt, tt));
+          says = ((unheld_there (granted v x) it.unheld, record { grant = new_grant mac ip; found = it.now; held = refl; to = refl }), (tt, tt));
+          frees_none = λ z. refl;
         }
 
-    pub keeps_next : Keeps own r id down v (grants_next v port mac ip)
-    unfolding x new word
-    keeps_next = record { good = λ up good. next_good up good; grows = λ up good. next_grows up good; place = refl; k = refl }
+    keeps_new : Keeps own r id down v (grants_new v port mac ip x)
+    keeps_new = record { good = λ up good. next_good up good; grows = λ up good. next_grows up good; place = refl; k = refl }
 
-  -- ---- the IPv4 address of an address in use
-  module _ (v : SwitchView) (port vmid : ℕ) (mac : Mac) (ip : Ip4) (settled : is_settled v.place ≡ true) (within : port < v.k)
-      (u : IsInUse (grants_at v port) mac vmid) (is_own : IsOwnIp own mac (Some ip)) where
-    old : Pmac
+  keeps_next : (v : SwitchView) (port : ℕ) (mac : Mac) (ip : Option Ip4) → is_settled v.place ≡ true → port < v.k → IsOwnIp own mac ip → (o : Option ℕ) →
+      next_vmid (freed_at v port) (grants_at v port) ≡ o → Keeps own r id down v (grants_next v port mac ip o)
+  keeps_next v port mac ip settled within is_own None is = rests_keeps own r id down v
+  keeps_next v port mac ip settled within is_own (Some vmid) is = keeps_new v port mac ip vmid settled within is_own is
+
+  -- ---- an address in use is used
+  module _ (v : SwitchView) (port vmid : ℕ) (mac : Mac) (settled : is_settled v.place ≡ true) (within : port < v.k) (u : IsInUse (grants_at v port) mac vmid) where
+    abbrev old : Pmac
     old = address_at_port v port vmid
 
-    known : Grant
-    known = record u.grant { ip = Some ip }
+    in_place : is_local v old ≡ true
+    in_place = local_here v port vmid settled
 
-    said : ToManager
-    said = tell.Learned old u.grant.amac (Some ip)
+    held_in_use : (h : AddressUse) → is_in_use h ≡ true → is_held h ≡ true
+    held_in_use h used = ap is_held (in_use_for h used).1
 
-    learnt_good : (up : List ToManager) → Good own r id down v up → Good own r id down (with_grant v old known) (up ++ said ∷ [])
-    unfolding old known said
-    learnt_good up good =
-        let many : port < length v.grants = subst (λ n. port < n) (sym good.address_table.many) within in
-        let here : is_local v old ≡ true = local_here v port vmid settled in
-        let list : List Grant = set (grants_at v port) (vmid - 1) known in
-        let some = (number_within (grants_at v port) vmid u.grant u.found).0 in
-        let was : granted v old ≡ Some u.grant = granted_here v old here ∙ u.found in
-        let now : granted (with_grants v port list) old ≡ Some known = now_at v old list many here ∙ number_set_same (grants_at v port) vmid u.grant known u.found in
-        let others : (z : Pmac) → same_pmac z old ≡ false → granted (with_grants v port list) z ≡ granted v z =
-        others_at v old list many here (λ n other. number_set_other (grants_at v port) vmid n known some other) in
-        let its : IsOwnIp own u.grant.amac (Some ip) = subst (λ (m : Mac). IsOwnIp own m (Some ip)) (sym u.mac_is) is_own in
-        let it = good.edge.grants old u.grant was in
-        let busy = in_use_for u.grant.held u.used in
-        record {
-          edge = changed own r (edge_of id v up down) good.edge old known (λ z. granted (with_grants v port list) z) (said ∷ []) down here now others
-              (λ h is. ap (λ (g : Grant). g.amac) (same_Some u.grant h (sym was ∙ is)))
-              ((record { grant = known; found = now; to = refl }, its), tt)
-              good.edge.orders (λ z other. other_word old z u.grant.amac (Some ip) (other_turned z old other)) (λ z other. refl)
-              (record {
-                own_ip = its;
-                told_ip = λ used j is. inr (any_behind (tells_ip old) up (said ∷ []) (ap (λ b. b || false) (pmac_itself old)));
-                trap_ip = it.trap_ip;
-              })
-              (phase_told r (edge_of id v up down) old known (λ z. granted (with_grants v port list) z) u.grant.amac (Some ip) now
-              (subst (λ (h : AddressUse). Phase (record (tenure_at r (edge_of id v up down) old) { held = Some h; up = words_of old up ++ Learns ∷ [] })) (sym busy.1)
-              (told_phase (tenure_at r (edge_of id v up down) old) (good.edge.phases old here) busy.0 busy.0
-              (ap (λ (o : Option Grant). option_map (λ (g : Grant). g.held) o) was ∙ ap Some busy.1))));
-          address_table = address_table_with_grants own v port list settled good.address_table;
-        }
+    -- the use of the address is new, and maybe its IPv4 address
+    module _ (known : Grant) (same : known.amac ≡ u.grant.amac) (used : known.held ≡ InUse 0) where
+      abbrev list : List Grant
+      list = set (grants_at v port) (vmid - 1) known
 
-    learnt_grows : (up : List ToManager) → Good own r id down v up → Grows v (record { view = with_grant v old known; acts = act.Tell said ∷ [] })
-    unfolding old known said
-    learnt_grows up good =
-        let many : port < length v.grants = subst (λ n. port < n) (sym good.address_table.many) within in
-        let here : is_local v old ≡ true = local_here v port vmid settled in
-        let list : List Grant = set (grants_at v port) (vmid - 1) known in
-        let some = (number_within (grants_at v port) vmid u.grant u.found).0 in
-        let was : granted v old ≡ Some u.grant = granted_here v old here ∙ u.found in
-        let now : granted (with_grants v port list) old ≡ Some known = now_at v old list many here ∙ number_set_same (grants_at v port) vmid u.grant known u.found in
-        record {
-          stays = keeps_grantees own r (edge_of id v up down) good.edge old known (λ z. granted (with_grants v port list) z) [] down here now
-              (others_at v old list many here (λ n other. number_set_other (grants_at v port) vmid n known some other))
-              (λ h is. ap (λ (g : Grant). g.amac) (same_Some u.grant h (sym was ∙ is)));
-          once = λ z. omega arith;
-          fresh = (tt, tt);
-        }
+      record IsUsedNow : Type 0 where
+        was : granted v old ≡ Some u.grant
+        now : granted (with_grants v port list) old ≡ Some known
+        others : (y : Pmac) → same_pmac y old ≡ false → granted (with_grants v port list) y ≡ granted v y
+        stays : StaysTo (λ y. granted v y) old known
+        free : AreFreeVmids list (freed_at v port)
 
-    keeps_learnt : Keeps own r id down v (record { view = with_grant v old known; acts = act.Tell said ∷ [] })
-    unfolding old known said
-    keeps_learnt = record { good = λ up good. learnt_good up good; grows = λ up good. learnt_grows up good; place = refl; k = refl }
+      used_now : IsGoodAddressTable own v → IsUsedNow
+      used_now table =
+          let many : port < length v.grants = subst (λ n. port < n) (sym table.many) within in
+          let some = (number_within (grants_at v port) vmid u.grant u.found).0 in
+          let was : granted v old ≡ Some u.grant = granted_here v old in_place ∙ u.found in
+          record {
+            was = was;
+            now = now_at v old list many in_place ∙ number_set_same (grants_at v port) vmid u.grant known u.found;
+            others = others_at v old list many in_place (λ n other. number_set_other (grants_at v port) vmid n known some other);
+            stays = λ h is held. (ap is_held used, same ∙ ap (λ (g : Grant). g.amac) (same_Some u.grant h (sym was ∙ is)));
+            free = held_free (grants_at v port) (freed_at v port) vmid u.grant known (table.free port) u.found (held_in_use u.grant.held u.used) (ap is_held used);
+          }
+
+      used_grows : (acts : List Act) (up : List ToManager) → Good own r id down v up → ((x : Pmac) → grant_acts x acts ≤ 1) → ((x : Pmac) → free_acts x acts ≡ 0) →
+          AllByRecursion (SaysSo v (record (with_grants v port list) { used = behind old v.used })) acts →
+          Grows v (record { view = record (with_grants v port list) { used = behind old v.used }; acts = acts })
+      used_grows acts up good few none says =
+          let it = used_now good.address_table in
+          record {
+            stays = keeps_holders own r (edge_of id v up down) good.edge old known (λ y. granted (with_grants v port list) y) [] down in_place it.now it.others it.stays;
+            once = few;
+            says = says;
+            frees_none = none;
+          }
+
+      -- nothing is told
+      silent_good : known.ip ≡ u.grant.ip → (up : List ToManager) → Good own r id down v up →
+          Good own r id down (record (with_grants v port list) { used = behind old v.used }) (up ++ [])
+      silent_good same_ip up good =
+          let it = used_now good.address_table in
+          let e = edge_of id v up down in
+          let busy = in_use_for u.grant.held u.used in
+          let before = good.edge.grants old u.grant it.was in
+          record {
+            edge = changed own r e good.edge old known (λ y. granted (with_grants v port list) y) [] down in_place it.now it.others it.stays tt good.edge.orders
+                (λ y other. refl) (λ y other. refl)
+                (record {
+                  own_ip = subst₂ (λ (m : Mac) (i : Option Ip4). IsOwnIp own m i) (sym same) (sym same_ip) before.own_ip;
+                  told_ip = λ is_used j is. elim (before.told_ip u.used j (sym same_ip ∙ is)) [ inl knows ↦ inl knows | inr waits ↦ inr (any_before (tells_ip old) up [] waits) ];
+                  trap_ip = λ trap is. absurd (none-some trap (ap standing_trap (sym used) ∙ is));
+                })
+                (phase_held r e old known (λ y. granted (with_grants v port list) y) it.now
+                (subst (λ (h : AddressUse). Phase (record (tenure_at r e old) { held = Some h })) (sym used)
+                (used_phase (tenure_at r e old) (good.edge.phases old in_place) busy.0 0
+                (ap (λ (o : Option Grant). option_map (λ (g : Grant). g.held) o) it.was ∙ ap Some busy.1))));
+            address_table = table_alike own (with_grants v port list) (record (with_grants v port list) { used = behind old v.used }) refl refl refl refl refl
+                (table_with_grants own v port list settled within good.address_table it.free);
+          }
+
+      -- its IPv4 address is told
+      told_good : (ip : Ip4) → known.ip ≡ Some ip → IsOwnIp own mac (Some ip) → (up : List ToManager) → Good own r id down v up →
+          Good own r id down (record (with_grants v port list) { used = behind old v.used }) (up ++ tell.Learned old u.grant.amac (Some ip) ∷ [])
+      told_good ip new_ip is_own up good =
+          let it = used_now good.address_table in
+          let e = edge_of id v up down in
+          let busy = in_use_for u.grant.held u.used in
+          let its : IsOwnIp own u.grant.amac (Some ip) = subst (λ (m : Mac). IsOwnIp own m (Some ip)) (sym u.mac_is) is_own in
+          let said = tell.Learned old u.grant.amac (Some ip) in
+          record {
+            edge = changed own r e good.edge old known (λ y. granted (with_grants v port list) y) (said ∷ []) down in_place it.now it.others it.stays
+                ((record { grant = known; found = it.now; held = ap is_held used; to = same }, its), tt)
+                good.edge.orders (λ y other. other_word old y u.grant.amac (Some ip) (other_turned y old other)) (λ y other. refl)
+                (record {
+                  own_ip = subst₂ (λ (m : Mac) (i : Option Ip4). IsOwnIp own m i) (sym same) (sym new_ip) its;
+                  told_ip = λ is_used j is. inr (any_behind (tells_ip old) up (said ∷ []) (ap (λ b. b || false) (pmac_itself old)));
+                  trap_ip = λ trap is. absurd (none-some trap (ap standing_trap (sym used) ∙ is));
+                })
+                (phase_told r e old known (λ y. granted (with_grants v port list) y) u.grant.amac (Some ip) it.now
+                (subst (λ (h : AddressUse). Phase (record (tenure_at r e old) { held = Some h; up = words_of old up ++ Learns ∷ [] })) (sym used)
+                (told_phase (tenure_at r e old) (good.edge.phases old in_place) busy.0 0
+                (ap (λ (o : Option Grant). option_map (λ (g : Grant). g.held) o) it.was ∙ ap Some busy.1))));
+            address_table = table_alike own (with_grants v port list) (record (with_grants v port list) { used = behind old v.used }) refl refl refl refl refl
+                (table_with_grants own v port list settled within good.address_table it.free);
+          }
+
+    abbrev used_again : Grant
+    used_again = record u.grant { held = InUse 0 }
+
+    keeps_used : Keeps own r id down v (rests (uses v old u.grant))
+    keeps_used = record {
+      good = λ up good. silent_good used_again refl refl refl up good;
+      grows = λ up good. used_grows used_again refl refl [] up good (λ x. omega arith) (λ x. refl) tt;
+      place = refl;
+      k = refl;
+    }
+
+    keeps_known : (ip : Option Ip4) → IsOwnIp own mac ip → Keeps own r id down v (learns_ip v old (Some u.grant) ip)
+    keeps_known None is_own = keeps_used
+    keeps_known (Some ip) is_own =
+        let known : Grant = record u.grant { ip = Some ip; held = InUse 0 } in
+        let said = act.Tell (tell.Learned old u.grant.amac (Some ip)) ∷ [] in
+        keeps_either own r id down v (is_ip u.grant.ip ip) (rests (uses v old u.grant))
+        (record { view = uses v old (record u.grant { ip = Some ip }); acts = said })
+        (λ as_before. keeps_used)
+        (λ other. record {
+          good = λ up good. told_good known refl refl ip refl is_own up good;
+          grows = λ up good. used_grows known refl refl said up good (λ x. omega arith) (λ x. refl) (tt, tt);
+          place = refl;
+          k = refl;
+        })
 
   -- ---- a source at a port
   module _ (v : SwitchView) (port : ℕ) (mac : Mac) (settled : is_settled v.place ≡ true) (within : port < v.k) where
-    keeps_known : (vmid : ℕ) (ip : Option Ip4) → IsOwnIp own mac ip → (u : IsInUse (grants_at v port) mac vmid) →
-        Keeps own r id down v (learns_ip v (address_at_port v port vmid) (Some u.grant) ip)
-    unfolding old known said
-    keeps_known vmid None is_own u = rests_keeps own r id down v
-    keeps_known vmid (Some ip) is_own u =
-        keeps_either own r id down v (is_ip u.grant.ip ip) (rests v)
-        (record { view = with_grant v (address_at_port v port vmid) (record u.grant { ip = Some ip }); acts = act.Tell (tell.Learned (address_at_port v port vmid) u.grant.amac (Some ip)) ∷ [] })
-        (λ same. rests_keeps own r id down v) (λ new. keeps_learnt v port vmid mac ip settled within u is_own)
-
     keeps_source : (ip : Option Ip4) → IsOwnIp own mac ip → (o : Option ℕ) → in_use (grants_at v port) mac ≡ o → Keeps own r id down v (grants_or_learns v port mac ip o)
     keeps_source ip is_own (Some vmid) is =
         let u = used_is (grants_at v port) mac vmid is in
-        subst (λ (o : Option Grant). Keeps own r id down v (learns_ip v (address_at_port v port vmid) o ip)) (sym u.found) (keeps_known vmid ip is_own u)
-    keeps_source ip is_own None is =
-        keeps_either own r id down v (is_port_spent v port) (rests v) (grants_next v port mac ip) (λ spent. rests_keeps own r id down v)
-        (λ room. keeps_next v port mac ip settled within is_own)
+        subst (λ (o : Option Grant). Keeps own r id down v (learns_ip v (address_at_port v port vmid) o ip)) (sym u.found) (keeps_known v port vmid mac settled within u ip is_own)
+    keeps_source ip is_own None is = keeps_next v port mac ip settled within is_own (next_vmid (freed_at v port) (grants_at v port)) refl
 
     pub keeps_grants_or_learns : (ip : Option Ip4) → IsOwnIp own mac ip → Keeps own r id down v (grants_or_learns v port mac ip (in_use (grants_at v port) mac))
     keeps_grants_or_learns ip is_own = keeps_source ip is_own (in_use (grants_at v port) mac) refl
@@ -248,7 +315,7 @@ module _ (own : Mac → Option Ip4) (r : Registry) (id : Option SwitchId) (down 
       Keeps own r id down v (rests (record v { remembered = set v.remembered port new }))
   keeps_put_source v port new is_own = record {
     good = λ up good. good_now up good;
-    grows = λ up good. record { once = λ x. omega arith; stays = λ x mac is. is; fresh = tt };
+    grows = λ up good. record { once = λ x. omega arith; stays = λ x mac is. is; says = tt; frees_none = λ x. refl };
     place = refl;
     k = refl;
   }
@@ -276,7 +343,7 @@ module _ (own : Mac → Option Ip4) (r : Registry) (id : Option SwitchId) (down 
         (λ source is. let same = same_Some (record { amac = mac; ip = or_else ip (remembered_ip (remembered_at v port) mac) }) source is in
         subst (λ (s : Source). IsOwnIp own s.amac s.ip) same
         (own_or mac ip (remembered_ip (remembered_at v port) mac) is_own (own_remembered (remembered_at v port) mac (λ s found. good.address_table.sources port s found))))).good up good;
-    grows = λ up good. record { once = λ x. omega arith; stays = λ x mac is. is; fresh = tt };
+    grows = λ up good. record { once = λ x. omega arith; stays = λ x mac is. is; says = tt; frees_none = λ x. refl };
     place = refl;
     k = refl;
   }

@@ -1,7 +1,8 @@
 -- Grants by their numbers and by their addresses.
 use Rattle.std.proofs.Common.{◌≡◌, ◌≢◌, ◌≤◌, ◌<◌, ◌+◌, ◌-◌, ◌==◌, ◌&&◌, ℕ, zero, suc, Bool, true, false, cond, get_or, set, List, [], ◌∷◌, ◌++◌, length, Option, Some, None, is_some, unwrap_or, slice_get, refl, sym, ap, subst, ◌∙◌, inl, inr, arith, eqb-true, eq-eqb, get_or-set_same, get_or-set_other}
 use Rattle.std.specs.List.{position_from}
-use Rattle.std.proofs.lemmas.Bool.{and_from, and_parts, cases_Bool, cases_eq, false≢true}
+use Rattle.std.proofs.lemmas.Bool.{and_from, and_parts, cases_Bool, cases_eq, cases_lt, false≢true}
+use Rattle.std.proofs.lemmas.List.{get_or_past}
 use Rattle.std.proofs.lemmas.Option.{none-some, same_Some, slice_get_within}
 use Rattle.pl_frame.specs.declared.address.Mac.{Mac}
 use Rattle.pl_pmac.specs.declared.pmac.Pmac.{Pmac}
@@ -13,11 +14,12 @@ use Rattle.pl_node.specs.AddressUses.{is_in_use}
 use Rattle.pl_node.specs.declared.switch_records.Grant.{Grant}
 use Rattle.pl_node.specs.SwitchViews.{SwitchView}
 use Rattle.pl_switch_rule.specs.Granting.{address_at_port, grant_number, granted, grants_at, in_use, is_local, with_grants}
+use Rattle.pl_switch_rule.proofs.Exports.{granted_parts}
 use Rattle.pl_law_addresses.specs.EdgeAddresses.{is_settled}
 use Rattle.pl_law_addresses.proofs.AddressLemmas.{get-set_other, get-set_same, same_by}
 
 -- ---- by number
-number_one_more : (gs : List Grant) (n : ℕ) → grant_number gs (suc n) ≡ slice_get gs n
+pub number_one_more : (gs : List Grant) (n : ℕ) → grant_number gs (suc n) ≡ slice_get gs n
 number_one_more gs n =
     let other : (suc n == 0) ≡ false = zero_apart (suc n) (omega arith) in
     let less : suc n - 1 ≡ n = omega arith in
@@ -219,3 +221,14 @@ module _ (v : SwitchView) (x : Pmac) (new : List Grant) (within : x.port < lengt
             (same_pmacs y x (known_same v.place.pod y.pod x.pod your.0 my.0) (known_same v.place.position y.position x.position your.1 my.1) port vmid)))
             ∙ ap (λ p. grant_number (get_or v.grants p []) y.vmid) (sym port)
       ]
+
+-- a port at which something was granted is there
+pub granted_within : (v : SwitchView) (x : Pmac) (g : Grant) → granted v x ≡ Some g → length v.grants ≡ v.k → x.port < v.k
+granted_within v x g is many = elim (cases_lt x.port (length v.grants)) [
+  | inl less ↦ subst (λ n. x.port < n) many less
+  | inr past ↦
+      let most = (number_within (grants_at v x.port) x.vmid g (granted_parts v x g is).1) in
+      let none : grants_at v x.port ≡ [] = get_or_past v.grants x.port [] past in
+      let zero : length (grants_at v x.port) ≡ 0 = ap (λ (gs : List Grant). length gs) none in
+      absurd (omega (arith, most.0, most.1, zero))
+]

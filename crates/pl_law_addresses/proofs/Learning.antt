@@ -1,5 +1,5 @@
 -- The fabric manager hears a switch, and the addresses of the whole fabric stay in order.
-use Rattle.std.proofs.Common.{◌≡◌, ◌<◌, ◌+◌, ℕ, true, false, cond, set, List, [], ◌∷◌, ◌++◌, length, Option, Some, None, slice_get, refl, sym, ap, subst, ◌∙◌, inl, inr, append_assoc, append-nil, get_or-set_same, get_or-set_other, unwrap_or}
+use Rattle.std.proofs.Common.{◌≡◌, ◌<◌, ◌+◌, ℕ, true, false, cond, set, List, [], ◌∷◌, ◌++◌, length, Option, Some, None, slice_get, refl, sym, ap, subst, ◌∙◌, inl, inr, append_assoc, append-nil, get_or-set_same, get_or-set_other}
 use Rattle.std.specs.List.{AllByRecursion, list_any, position}
 use Rattle.std.specs.Option.{option_or}
 use Rattle.std.proofs.lemmas.Bool.{cases_Bool, cases_eq}
@@ -19,7 +19,7 @@ use Rattle.pl_node.specs.declared.messages.ToSwitch.TheVariants as say
 use Rattle.pl_node.specs.declared.switch_records.Grant.{Grant}
 use Rattle.pl_node.specs.AvoidLists.{avoid_list}
 use Rattle.pl_node.specs.ManagerFacts.{groups}
-use Rattle.pl_node.specs.ManagerViews.{Learnt, ManagerView, Registration, Told, lookup, newest, pod_given, registration, registry}
+use Rattle.pl_node.specs.ManagerViews.{Learnt, ManagerView, Registration, Told, newest, registration, registry}
 use Rattle.pl_node.specs.SwitchViews.{SwitchView}
 use Rattle.pl_manager_rule.specs.Histories.{Word, known}
 use Rattle.pl_manager_rule.specs.ManagerRule.{answer_to, avoid_acts, changed, changed_of_group, invalidation, learning, manager_hears, part_in, tree_acts, tree_acts_of, view_after}
@@ -33,7 +33,7 @@ use Rattle.pl_law_phases.specs.Phases.{Phase}
 use Rattle.pl_law_phases.specs.Tenures.{order_of, orders_of, told_of, words_of}
 use Rattle.pl_law_phases.specs.Tenures.Order.{Recalls}
 use Rattle.pl_law_phases.proofs.Exports.{ordered_here, ordered_there, orders_behind, told_there}
-use Rattle.pl_law_addresses.specs.EdgeAddresses.{Edge, IsGoodEdge, IsGoodOrder, IsGoodWord, IsGrantedTo, IsRegisteredHere, edge_of, tells_ip, tenure_at}
+use Rattle.pl_law_addresses.specs.EdgeAddresses.{Edge, IsGoodEdge, IsGoodOrder, IsGoodWord, IsHeldFor, IsRegisteredHere, edge_of, tells_ip, tenure_at}
 use Rattle.pl_law_addresses.specs.Addressed.{AreAddressed, AreApart}
 use Rattle.pl_law_addresses.proofs.ChangesKeepAddresses.{KeepsRegistered}
 use Rattle.pl_law_addresses.proofs.EdgeHears.{IsTakenFrom, again_here, again_phase_at, first_phase_at, heard_good, nothing_taken, recalled_phase_at, word_taken}
@@ -42,13 +42,15 @@ use Rattle.pl_law_addresses.proofs.Registering.{HearsAgain, HearsIp, HearsNew, a
 use Rattle.pl_law_addresses.proofs.SaidByManager.{IsSaid, all_said, place_is, place_only, said_at, said_extra, said_flat_map, said_map, said_weaker}
 use Rattle.pl_law_addresses.proofs.AddressLemmas.{any_rest, is_or_other, other_turned}
 
--- ---- acts that recall nothing
+-- ---- acts that speak of no address
 abbrev pub IsPlain : ToSwitch → Type 0
 IsPlain (say.Invalidate old new number ip) = ⊥
+IsPlain (say.Release x) = ⊥
 IsPlain says = Unit {0}
 
 plain_silent : (y : Pmac) (says : ToSwitch) → IsPlain says → order_of y says ≡ []
 plain_silent y (say.Invalidate old new number ip) is = absurd is
+plain_silent y (say.Release x) is = absurd is
 plain_silent y says is = refl
 
 module _ (plan : Plan) (switches : List SwitchView) where
@@ -56,42 +58,43 @@ module _ (plan : Plan) (switches : List SwitchView) where
   abbrev pub IsFit : ℕ → ToSwitch → Type 0
   IsFit t says = (u : SwitchView) → slice_get switches t ≡ Some u → IsGoodOrder (λ mac. own_ip plan mac) (λ y. granted u y) says
 
-  plain_fits : (t : ℕ) (says : ToSwitch) → IsPlain says → IsFit t says
+  pub plain_fits : (t : ℕ) (says : ToSwitch) → IsPlain says → IsFit t says
   plain_fits t (say.Invalidate old new number ip) is = absurd is
+  plain_fits t (say.Release x) is = absurd is
   plain_fits t says is = λ u found. tt
 
 module _ (plan : Plan) where
-  avoids_plain : (before after : Told) → AllByRecursion (IsSaid plan (λ t says. IsPlain says)) (avoid_acts before after)
+  pub avoids_plain : (before after : Told) → AllByRecursion (IsSaid plan (λ t says. IsPlain says)) (avoid_acts before after)
   avoids_plain before after = said_map plan (λ t says. IsPlain says) (λ s. Say s (say.Avoid (avoid_list after s))) (changed before after) (λ s t is. tt)
 
-  trees_plain : (before after : ManagerView) → AllByRecursion (IsSaid plan (λ t says. IsPlain says)) (tree_acts before after)
+  pub trees_plain : (before after : ManagerView) → AllByRecursion (IsSaid plan (λ t says. IsPlain says)) (tree_acts before after)
   trees_plain before after = said_flat_map plan (λ t says. IsPlain says) (tree_acts_of before after) (groups after.members)
       (λ group. said_map plan (λ t says. IsPlain says) (λ s. Say s (say.Tree group (part_in after group s))) (changed_of_group before after group) (λ s t is. tt))
 
-  answer_is_plain : (asker : Pmac) (asker_ip ip : Ip4) (o : Option Pmac) → IsPlain (answer_to asker asker_ip ip o)
+  pub answer_is_plain : (asker : Pmac) (asker_ip ip : Ip4) (o : Option Pmac) → IsPlain (answer_to asker asker_ip ip o)
   answer_is_plain asker asker_ip ip None = tt
   answer_is_plain asker asker_ip ip (Some pmac) = tt
 
   -- what follows a reply
-  all_plain : (before after : ManagerView) (acts : List ManagerAct) → AllByRecursion (IsSaid plan (λ t says. IsPlain says)) acts →
+  pub all_plain : (before after : ManagerView) (acts : List ManagerAct) → AllByRecursion (IsSaid plan (λ t says. IsPlain says)) acts →
       AllByRecursion (IsSaid plan (λ t says. IsPlain says)) (acts ++ avoid_acts before.told after.told ++ tree_acts before after)
   all_plain before after acts all =
       all_append (IsSaid plan (λ t says. IsPlain says)) (acts ++ avoid_acts before.told after.told) (tree_acts before after)
       (all_append (IsSaid plan (λ t says. IsPlain says)) acts (avoid_acts before.told after.told) all (avoids_plain before.told after.told)) (trees_plain before after)
 
   -- acts that speak of an address nowhere leave what waits about it
-  silent_orders : (y : Pmac) (says : List ToSwitch) → AllByRecursion (λ (q : ToSwitch). order_of y q ≡ []) says → orders_of y says ≡ []
+  pub silent_orders : (y : Pmac) (says : List ToSwitch) → AllByRecursion (λ (q : ToSwitch). order_of y q ≡ []) says → orders_of y says ≡ []
   silent_orders y [] all = refl
   silent_orders y (q ∷ says) all = ap (λ os. os ++ orders_of y says) all.0 ∙ silent_orders y says all.1
 
-  orders_aside : (y : Pmac) (down : List (List ToSwitch)) (acts : List ManagerAct) → AllByRecursion (IsSaid plan (λ t says. order_of y says ≡ [])) acts → (t : ℕ) →
+  pub orders_aside : (y : Pmac) (down : List (List ToSwitch)) (acts : List ManagerAct) → AllByRecursion (IsSaid plan (λ t says. order_of y says ≡ [])) acts → (t : ℕ) →
       orders_of y (items_at (all_said plan down acts) t) ≡ orders_of y (items_at down t)
   orders_aside y down acts silent t =
       let e = said_extra plan (λ t says. order_of y says ≡ []) down acts silent t in
       ap (λ os. orders_of y os) e.are ∙ orders_behind y (items_at down t) e.items ∙ ap (λ os. orders_of y (items_at down t) ++ os) (silent_orders y e.items e.all)
       ∙ append-nil (orders_of y (items_at down t))
 
-  plain_aside : (y : Pmac) (acts : List ManagerAct) → AllByRecursion (IsSaid plan (λ t says. IsPlain says)) acts → AllByRecursion (IsSaid plan (λ t says. order_of y says ≡ [])) acts
+  pub plain_aside : (y : Pmac) (acts : List ManagerAct) → AllByRecursion (IsSaid plan (λ t says. IsPlain says)) acts → AllByRecursion (IsSaid plan (λ t says. order_of y says ≡ [])) acts
   plain_aside y acts all = said_weaker plan (λ t says. IsPlain says) (λ t says. order_of y says ≡ []) (λ t says is. plain_silent y says is) acts all
 
 module _ (plan : Plan) (is_plan : IsPlan plan) (words : List Word) (switches : List SwitchView) (up : List (List ToManager)) (down : List (List ToSwitch))
@@ -125,7 +128,7 @@ module _ (plan : Plan) (is_plan : IsPlan plan) (words : List Word) (switches : L
 
   module _ (n : Registry) (says : ToManager) (head : items_at up s ≡ says ∷ items) where
     -- the word was taken at the switch that told it, and nothing elsewhere
-    taken : IsTakenFrom (λ mac. own_ip plan mac) n (edge_at s v) items →
+    pub taken : IsTakenFrom (λ mac. own_ip plan mac) n (edge_at s v) items →
         (t : ℕ) (u : SwitchView) → slice_get switches t ≡ Some u → IsTakenFrom (λ mac. own_ip plan mac) n (edge_at t u) (items_at (set up s items) t)
     taken here t u is = elim (cases_eq t s) [
       | inr other ↦
@@ -139,7 +142,7 @@ module _ (plan : Plan) (is_plan : IsPlan plan) (words : List Word) (switches : L
     ]
 
     -- it is of another address
-    words_still : (y : Pmac) → told_of y says ≡ [] → (t : ℕ) → words_of y (items_at (set up s items) t) ≡ words_of y (items_at up t)
+    pub words_still : (y : Pmac) → told_of y says ≡ [] → (t : ℕ) → words_of y (items_at (set up s items) t) ≡ words_of y (items_at up t)
     words_still y silent t = elim (cases_eq t s) [
       | inr other ↦ ap (λ ws. words_of y ws) (get_or-set_other up s t items [] other)
       | inl same ↦
@@ -175,7 +178,7 @@ module _ (plan : Plan) (is_plan : IsPlan plan) (words : List Word) (switches : L
               (orders_aside plan y down acts (plain_aside plan y acts plain) t) (good.phases y at);
         })
 
-    other_heard : (manager : ManagerView) (acts : List ManagerAct) → manager.learnt ≡ (known plan.k words).learnt →
+    pub other_heard : (manager : ManagerView) (acts : List ManagerAct) → manager.learnt ≡ (known plan.k words).learnt →
         manager ≡ known plan.k (record { switch = id; says = word } ∷ words) →
         AllByRecursion (IsSaid plan (λ t says. IsPlain says)) acts →
         AreAddressed plan manager switches (set up s items) (all_said plan down acts)
@@ -201,7 +204,7 @@ module _ (plan : Plan) (is_plan : IsPlan plan) (words : List Word) (switches : L
     new_reg = record { pmac = x; amac = mac; number = r.count + 1; switch = id }
 
     -- the switch that told it granted it
-    said : IsGrantedTo (λ y. granted v y) x mac × IsOwnIp (λ mac. own_ip plan mac) mac told
+    said : IsHeldFor (λ y. granted v y) x mac × IsOwnIp (λ mac. own_ip plan mac) mac told
     said =
         (subst (λ (ws : List ToManager). AllByRecursion (IsGoodWord (λ mac. own_ip plan mac) (λ y. granted v y)) ws) head (a.edges s v found).words).0
 
@@ -316,8 +319,8 @@ module _ (plan : Plan) (is_plan : IsPlan plan) (words : List Word) (switches : L
           let view : home.view ≡ u = same_Some home.view u (sym home.found ∙ ap (slice_get switches) same ∙ is) in
           record {
             mac = mac;
-            granted_to = subst (λ (w : SwitchView). IsGrantedTo (λ y. granted w y) old.pmac mac) view
-                (subst (λ (m : Mac). IsGrantedTo (λ y. granted home.view y) old.pmac m) it.0 here.granted_to);
+            granted_to = subst (λ (w : SwitchView). IsHeldFor (λ y. granted w y) old.pmac mac) view
+                (subst (λ (m : Mac). IsHeldFor (λ y. granted home.view y) old.pmac m) it.0 here.granted_to);
             own_ip = own_said registry old (grows old.pmac old it.1) it.0 (n.ip_at x) (n.ip_at old.pmac) refl refl;
           }
 
@@ -414,7 +417,7 @@ module _ (plan : Plan) (is_plan : IsPlan plan) (words : List Word) (switches : L
             ];
           }
 
-    learned_heard : AreAddressed plan (manager_hears (known plan.k words) id (tell.Learned x mac told)).view switches (set up s items)
+    pub learned_heard : AreAddressed plan (manager_hears (known plan.k words) id (tell.Learned x mac told)).view switches (set up s items)
         (all_said plan down (manager_hears (known plan.k words) id (tell.Learned x mac told)).acts)
     unfolding manager_hears
     learned_heard =
@@ -440,32 +443,3 @@ module _ (plan : Plan) (is_plan : IsPlan plan) (words : List Word) (switches : L
               (all_append (IsSaid plan (λ t says. IsPlain says)) (avoid_acts before.told after.told) (tree_acts before after)
               (avoids_plain plan before.told after.told) (trees_plain plan before after))))
         ]
-
-  -- ---- any message
-  pub heard_addressed : (says : ToManager) → items_at up s ≡ says ∷ items →
-      AreAddressed plan (manager_hears (known plan.k words) id says).view switches (set up s items) (all_said plan down (manager_hears (known plan.k words) id says).acts)
-  unfolding manager_hears
-  heard_addressed (tell.Learned x mac told) head = learned_heard x mac told head
-  heard_addressed (tell.Place place) head =
-      let before = known plan.k words in let after = view_after before id (tell.Place place) in
-      other_heard (tell.Place place) head (λ y. refl) (λ y. refl) after ([] ++ avoid_acts before.told after.told ++ tree_acts before after) refl refl
-      (all_plain plan before after [] tt)
-  heard_addressed (tell.Link u usable) head =
-      let before = known plan.k words in let after = view_after before id (tell.Link u usable) in
-      other_heard (tell.Link u usable) head (λ y. refl) (λ y. refl) after ([] ++ avoid_acts before.told after.told ++ tree_acts before after) refl refl
-      (all_plain plan before after [] tt)
-  heard_addressed tell.PodWanted head =
-      let before = known plan.k words in let after = view_after before id tell.PodWanted in
-      let reply = Say id (say.Pod (unwrap_or (pod_given after.askers id) 0)) ∷ [] in
-      other_heard tell.PodWanted head (λ y. refl) (λ y. refl) after (reply ++ avoid_acts before.told after.told ++ tree_acts before after) refl refl
-      (all_plain plan before after reply (λ t is. tt, tt))
-  heard_addressed (tell.Query asker asker_ip ip) head =
-      let before = known plan.k words in
-      let reply = Say id (answer_to asker asker_ip ip (lookup before.learnt ip)) ∷ [] in
-      other_heard (tell.Query asker asker_ip ip) head (λ y. refl) (λ y. refl) before (reply ++ avoid_acts before.told before.told ++ tree_acts before before) refl refl
-      (all_plain plan before before reply
-      (λ t is. answer_is_plain plan asker asker_ip ip (lookup before.learnt ip), tt))
-  heard_addressed (tell.Members group any) head =
-      let before = known plan.k words in let after = view_after before id (tell.Members group any) in
-      other_heard (tell.Members group any) head (λ y. refl) (λ y. refl) after ([] ++ avoid_acts before.told after.told ++ tree_acts before after) refl refl
-      (all_plain plan before after [] tt)

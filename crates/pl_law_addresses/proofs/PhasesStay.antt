@@ -1,5 +1,5 @@
 -- What leaves an address in its phase, and how one word about it shows in the queues.
-use Rattle.std.proofs.Common.{◌≡◌, false, List, [], ◌∷◌, ◌++◌, Option, Some, None, refl, sym, ap, subst, ◌∙◌, inl, inr, append-nil}
+use Rattle.std.proofs.Common.{◌≡◌, ℕ, false, List, [], ◌∷◌, ◌++◌, Option, Some, None, refl, sym, ap, subst, ◌∙◌, inl, inr, append-nil}
 use Rattle.std.specs.List.{AllByRecursion}
 use Rattle.std.specs.Option.{option_map}
 use Rattle.std.proofs.lemmas.Option.{none-some}
@@ -15,8 +15,8 @@ use Rattle.pl_node.specs.declared.switch_records.Grant.{Grant}
 use Rattle.pl_law_phases.specs.Phases.{Phase}
 use Rattle.pl_law_phases.specs.Phases.Phase.{Gone}
 use Rattle.pl_law_phases.specs.Tenures.{Tenure, is_held, orders_of, words_of}
-use Rattle.pl_law_phases.specs.Tenures.Told.{Learns}
-use Rattle.pl_law_phases.proofs.Exports.{ordered_there, told_here, told_there, words_behind}
+use Rattle.pl_law_phases.specs.Tenures.Told.{Ages, Learns}
+use Rattle.pl_law_phases.proofs.Exports.{aged_here, aged_there, ordered_there, released_there, told_here, told_there, words_behind}
 use Rattle.pl_law_addresses.specs.Registries.{Registry}
 use Rattle.pl_law_addresses.specs.EdgeAddresses.{Edge, IsGoodOrder, IsGoodWord, tenure_at}
 use Rattle.pl_law_addresses.proofs.AddressLemmas.{is_or_other}
@@ -54,6 +54,9 @@ phase_kept r n e f x known granted up down phase =
 pub words_aside : (x : Pmac) (up more : List ToManager) → words_of x more ≡ [] → words_of x (up ++ more) ≡ words_of x up
 words_aside x up more none = words_behind x up more ∙ ap (λ ws. words_of x up ++ ws) none ∙ append-nil (words_of x up)
 
+pub other_aged : (x y : Pmac) (number : ℕ) → same_pmac x y ≡ false → words_of y (tell.Aged x number ∷ []) ≡ []
+other_aged x y number other = ap (λ ws. ws ++ []) (aged_there x y number other)
+
 pub other_word : (x y : Pmac) (amac : Mac) (ip : Option Ip4) → same_pmac x y ≡ false → words_of y (tell.Learned x amac ip ∷ []) ≡ []
 other_word x y amac ip other = ap (λ ws. ws ++ []) (told_there x y amac ip other)
 
@@ -69,6 +72,29 @@ phase_told r e x g f amac ip now phase =
     λ i. record (tenure_at r e x) { held = option_map (λ (h : Grant). h.held) (sym now i); up = sym told i } in
     subst (λ (t : Tenure). Phase t) path phase
 
+-- it holds this then, and nothing new is told
+pub phase_held : (r : Registry) (e : Edge) (x : Pmac) (g : Grant) (f : Pmac → Option Grant) → f x ≡ Some g → Phase (record (tenure_at r e x) { held = Some g.held }) →
+    Phase (tenure_at r (record e { granted = f; up = e.up ++ [] }) x)
+phase_held r e x g f now phase =
+    let path : record (tenure_at r e x) { held = Some g.held } ≡ tenure_at r (record e { granted = f; up = e.up ++ [] }) x =
+    λ i. record (tenure_at r e x) {
+      held = option_map (λ (h : Grant). h.held) (sym now i);
+      up = ap (λ (ws : List ToManager). words_of x ws) (sym (append-nil e.up)) i;
+    } in
+    subst (λ (t : Tenure). Phase t) path phase
+
+-- it rests then, and that is told
+pub phase_rests : (r : Registry) (e : Edge) (x : Pmac) (g : Grant) (f : Pmac → Option Grant) (number : ℕ) → f x ≡ Some g →
+    Phase (record (tenure_at r e x) { held = Some g.held; up = words_of x e.up ++ Ages number ∷ [] }) →
+    Phase (tenure_at r (record e { granted = f; up = e.up ++ tell.Aged x number ∷ [] }) x)
+phase_rests r e x g f number now phase =
+    let told : words_of x (e.up ++ tell.Aged x number ∷ []) ≡ words_of x e.up ++ Ages number ∷ [] =
+    words_behind x e.up (tell.Aged x number ∷ []) ∙ ap (λ ws. words_of x e.up ++ (ws ++ [])) (aged_here x number) in
+    let path : record (tenure_at r e x) { held = Some g.held; up = words_of x e.up ++ Ages number ∷ [] }
+    ≡ tenure_at r (record e { granted = f; up = e.up ++ tell.Aged x number ∷ [] }) x =
+    λ i. record (tenure_at r e x) { held = option_map (λ (h : Grant). h.held) (sym now i); up = sym told i } in
+    subst (λ (t : Tenure). Phase t) path phase
+
 -- ---- an address that was not granted
 -- nobody speaks of it
 pub words_ungranted : (own : Mac → Option Ip4) (f : Pmac → Option Grant) (x : Pmac) → f x ≡ None → (up : List ToManager) →
@@ -78,6 +104,10 @@ words_ungranted own f x none (tell.Learned y amac ip ∷ up) all = elim (is_or_o
   | inl same ↦ let to = all.0.0 in absurd (none-some to.grant (sym none ∙ ap f (sym same) ∙ to.found))
   | inr other ↦ ap (λ ws. ws ++ words_of x up) (told_there y x amac ip other) ∙ words_ungranted own f x none up all.1
 ]
+words_ungranted own f x none (tell.Aged y number ∷ up) all = elim (is_or_other y x) [
+  | inl same ↦ let to = all.0.1 in absurd (none-some to.grant (sym none ∙ ap f (sym same) ∙ to.found))
+  | inr other ↦ ap (λ ws. ws ++ words_of x up) (aged_there y x number other) ∙ words_ungranted own f x none up all.1
+]
 words_ungranted own f x none (says ∷ up) all = words_ungranted own f x none up all.1
 
 pub orders_ungranted : (own : Mac → Option Ip4) (f : Pmac → Option Grant) (x : Pmac) → f x ≡ None → (down : List ToSwitch) →
@@ -86,6 +116,10 @@ orders_ungranted own f x none [] all = refl
 orders_ungranted own f x none (say.Invalidate old new number ip ∷ down) all = elim (is_or_other old x) [
   | inl same ↦ let to = all.0.granted_to in absurd (none-some to.grant (sym none ∙ ap f (sym same) ∙ to.found))
   | inr other ↦ ap (λ os. os ++ orders_of x down) (ordered_there old x new number ip other) ∙ orders_ungranted own f x none down all.1
+]
+orders_ungranted own f x none (say.Release y ∷ down) all = elim (is_or_other y x) [
+  | inl same ↦ let to = all.0.1 in absurd (none-some to.grant (sym none ∙ ap f (sym same) ∙ to.found))
+  | inr other ↦ ap (λ os. os ++ orders_of x down) (released_there y x other) ∙ orders_ungranted own f x none down all.1
 ]
 orders_ungranted own f x none (says ∷ down) all = orders_ungranted own f x none down all.1
 

@@ -19,20 +19,21 @@ use Rattle.pl_layouts.specs.declared.place.Place.{Place}
 use Rattle.pl_layouts.specs.Placement.{is_known, is_placed}
 use Rattle.pl_layouts.specs.Votes.{counts, gives_way}
 use Rattle.pl_steps.specs.Steps.{SwitchStep, does, rests, ◌▹◌}
-use Rattle.pl_switch_rule.specs.Granting.{granted, grants_at, grants_remembered, is_local}
+use Rattle.pl_switch_rule.specs.Granting.{freed_at, granted, grants_at, grants_remembered, is_local}
 use Rattle.pl_switch_rule.specs.Levels.{after_message, becomes_edge, changes_to, has_become_placed, learns_level, learns_pod, level_after, notes_edge, pod_after, is_of_other_pod, pod_told_before, settles_in, share_a_pod, with_message, with_pod}
 use Rattle.pl_switch_rule.specs.Messages.{takes_pod}
 use Rattle.pl_switch_rule.specs.Positions.{after_vote, counted, fixes_position, frees_others, half, marks, moves_on, notes_position, with_granted}
 use Rattle.pl_switch_rule.specs.Telling.{changes_told}
 use Rattle.pl_switch_rule.proofs.Exports.{all_range, none_granted}
+use Rattle.pl_law_addresses.specs.FreeVmids.{AreFreeVmids}
 use Rattle.pl_law_addresses.specs.Registries.{Registry}
-use Rattle.pl_law_addresses.specs.EdgeAddresses.{KeepsGrantees, edge_of, is_settled}
+use Rattle.pl_law_addresses.specs.EdgeAddresses.{KeepsHolders, edge_of, is_settled}
 use Rattle.pl_law_addresses.proofs.Asides.{changes_silent}
 use Rattle.pl_law_addresses.proofs.ChangesKeepAddresses.{orders_kept, words_kept}
 use Rattle.pl_law_addresses.proofs.Granting.{keeps_grants_remembered}
 use Rattle.pl_law_addresses.proofs.GrantsByNumber.{settled_is}
 use Rattle.pl_law_addresses.proofs.PhasesStay.{KnowsNothing, ungranted_phase}
-use Rattle.pl_law_addresses.proofs.RowsLeaveAddresses.{Good, Grows, LeavesAddresses, Keeps, aside_does, aside_keeps, grows_from, grows_then, keeps_either, keeps_then, rests_keeps, same_good, same_grantees, told_append, told_by}
+use Rattle.pl_law_addresses.proofs.RowsLeaveAddresses.{Good, Grows, LeavesAddresses, Keeps, aside_does, aside_keeps, grows_from, grows_then, keeps_either, keeps_then, rests_keeps, same_good, same_holders, told_append, told_by}
 
 -- an address has this place
 abbrev pub has_place : Place → Pmac → Bool
@@ -42,6 +43,7 @@ has_place place x = is_known place.level 0 && (is_known place.pod x.pod && is_kn
 pub record IsPlacing (v w : SwitchView) : Type 0 where
   pub k : w.k ≡ v.k
   pub grants : w.grants ≡ v.grants
+  pub freed : w.freed ≡ v.freed
   pub remembered : w.remembered ≡ v.remembered
   pub place : is_settled v.place ≡ true → w.place ≡ v.place
 
@@ -55,7 +57,7 @@ module _ (own : Mac → Option Ip4) (r : Registry) (id : Option SwitchId) (down 
       let empty : (port : ℕ) → grants_at w port ≡ [] = λ port. ap (λ (gs : List (List Grant)). get_or gs port []) p.grants ∙ good.address_table.empty unsettled port in
       let none : (x : Pmac) → granted w x ≡ None = λ x. none_granted w x (empty x.port) in
       let was_none : (x : Pmac) → granted v x ≡ None = λ x. none_granted v x (good.address_table.empty unsettled x.port) in
-      let keeps : KeepsGrantees (λ x. granted v x) (λ x. granted w x) = λ x mac is. absurd (none-some is.grant (sym (was_none x) ∙ is.found)) in
+      let keeps : KeepsHolders (λ x. granted v x) (λ x. granted w x) = λ x mac is. absurd (none-some is.grant (sym (was_none x) ∙ is.found)) in
       let words = words_kept own (λ x. granted v x) (λ x. granted w x) keeps up good.edge.words in
       let orders = orders_kept own (λ x. granted v x) (λ x. granted w x) keeps down good.edge.orders in
       record {
@@ -69,20 +71,24 @@ module _ (own : Mac → Option Ip4) (r : Registry) (id : Option SwitchId) (down 
         };
         address_table = record {
           many = ap (λ (gs : List (List Grant)). length gs) p.grants ∙ good.address_table.many ∙ sym p.k;
+          many_freed = ap (λ (fs : List (List ℕ)). length fs) p.freed ∙ good.address_table.many_freed ∙ sym p.k;
           empty = λ h port. empty port;
+          free = λ port.
+              subst (λ (fs : List ℕ). AreFreeVmids (grants_at w port) fs) (ap (λ (fs : List (List ℕ)). get_or fs port []) (sym p.freed))
+              (subst (λ (gs : List Grant). AreFreeVmids gs (freed_at v port)) (ap (λ (gs : List (List Grant)). get_or gs port []) (sym p.grants)) (good.address_table.free port));
           sources = λ port source is. good.address_table.sources port source (ap (λ (ss : List (Option Source)). get_or ss port None) (sym p.remembered) ∙ is);
         };
       }
 
   placed_good : (v w : SwitchView) (up : List ToManager) → IsPlacing v w → IsUnknown r v w.place → Good own r id down v up → Good own r id down w up
   placed_good v w up p unknown good = elim (cases_Bool (is_settled v.place)) [
-    | inl settled ↦ same_good own r id down v w up (p.place settled) p.k p.grants p.remembered good
+    | inl settled ↦ same_good own r id down v w up (p.place settled) p.k p.grants p.freed p.remembered good
     | inr unsettled ↦ new_place v w up p unsettled (λ x at. unknown unsettled x at) good
   ]
 
-  placed_grantees : (v w : SwitchView) (up : List ToManager) → IsPlacing v w → Good own r id down v up → KeepsGrantees (λ x. granted v x) (λ x. granted w x)
-  placed_grantees v w up p good = elim (cases_Bool (is_settled v.place)) [
-    | inl settled ↦ same_grantees v w (p.place settled) p.grants
+  placed_holders : (v w : SwitchView) (up : List ToManager) → IsPlacing v w → Good own r id down v up → KeepsHolders (λ x. granted v x) (λ x. granted w x)
+  placed_holders v w up p good = elim (cases_Bool (is_settled v.place)) [
+    | inl settled ↦ same_holders v w (p.place settled) p.grants
     | inr unsettled ↦ λ x mac is. absurd (none-some is.grant (sym (none_granted v x (good.address_table.empty unsettled x.port)) ∙ is.found))
   ]
 
@@ -120,7 +126,7 @@ module _ (own : Mac → Option Ip4) (r : Registry) (id : Option SwitchId) (down 
   steps_changes v w p = let a = keeps_changes v w in record {
     good = λ unknown up good. a.good up (placed_good v w up p (λ unsettled x at. unknown unsettled x (ap (λ (q : Place). has_place q x) a.place ∙ at)) good);
     grows = λ up unknown good.
-        grows_from v w (changes_to v w) (placed_grantees v w up p good)
+        grows_from v w (changes_to v w) (placed_holders v w up p good)
         (a.grows up (placed_good v w up p (λ unsettled x at. unknown unsettled x (ap (λ (q : Place). has_place q x) a.place ∙ at)) good));
     place = λ settled. a.place ∙ p.place settled;
     k = a.k ∙ p.k;
@@ -151,25 +157,26 @@ pub pod_placing : (v : SwitchView) (pod : ℕ) → takes_pod v pod ≡ true → 
 pod_placing v pod takes =
     let three = and_parts (is_known v.place.level 0 && is_known v.place.position 0 && is_none v.place.pod) (not (pod == 65535)) takes in
     let two = and_parts (is_known v.place.level 0 && is_known v.place.position 0) (is_none v.place.pod) three.0 in
-    record { k = refl; grants = refl; remembered = refl; place = λ settled. absurd (contradicts v.place settled two.1) }
+    record { k = refl; grants = refl; freed = refl; remembered = refl; place = λ settled. absurd (contradicts v.place settled two.1) }
 
 -- what an aggregation switch notes of positions changes nothing of this
 record IsLike (v w : SwitchView) : Type 0 where
   k : w.k ≡ v.k
   grants : w.grants ≡ v.grants
+  freed : w.freed ≡ v.freed
   remembered : w.remembered ≡ v.remembered
   place : w.place ≡ v.place
 
 notes_like : (v : SwitchView) (edge : SwitchId) (o : Option ℕ) → IsLike v (notes_position v edge o)
-notes_like v edge None = record { k = refl; grants = refl; remembered = refl; place = refl }
+notes_like v edge None = record { k = refl; grants = refl; freed = refl; remembered = refl; place = refl }
 notes_like v edge (Some position) =
     cond_both (nat_lt position (half v.k)) (marks (frees_others v edge position) edge position) v (IsLike v)
-    (λ h. record { k = refl; grants = refl; remembered = refl; place = refl }) (λ h. record { k = refl; grants = refl; remembered = refl; place = refl })
+    (λ h. record { k = refl; grants = refl; freed = refl; remembered = refl; place = refl }) (λ h. record { k = refl; grants = refl; freed = refl; remembered = refl; place = refl })
 
 notes_edge_like : (v : SwitchView) (id : SwitchId) (told : Place) → IsLike v (notes_edge v id told)
 notes_edge_like v id told =
     cond_both (is_known v.place.level 1 && is_known told.level 0) (notes_position v id told.position) v (IsLike v)
-    (λ h. notes_like v id told.position) (λ h. record { k = refl; grants = refl; remembered = refl; place = refl })
+    (λ h. notes_like v id told.position) (λ h. record { k = refl; grants = refl; freed = refl; remembered = refl; place = refl })
 
 level_stays : (v : SwitchView) (told : Place) → v.place.level ≡ Some 0 → level_after v told ≡ v.place.level
 level_stays v told is =
@@ -190,6 +197,7 @@ message_placing v port id m =
     record {
       k = like.k;
       grants = like.grants;
+      freed = like.freed;
       remembered = like.remembered;
       place = λ settled.
           let s = settled_is v.place settled in
@@ -207,20 +215,21 @@ vote_placing v port vote =
     let one = and_parts (is_known v.place.level 0) (is_none v.place.position) two.0 in
     let never : is_settled v.place ≡ true → ⊥ = λ settled. false≢true (sym (none_of_some v.place.position (settled_is v.place settled).position) ∙ one.1) in
     cond_both vote.granted (fixes_position (with_granted v port)) (cond (gives_way v.id vote) (moves_on v) v) (IsPlacing v)
-    (λ h. record { k = refl; grants = refl; remembered = refl; place = λ settled. absurd (never settled) })
+    (λ h. record { k = refl; grants = refl; freed = refl; remembered = refl; place = λ settled. absurd (never settled) })
     (λ h. cond_both (gives_way v.id vote) (moves_on v) v (IsPlacing v)
     (λ h. cond_both (v.attempt == 4294967295) v (record v { attempt = v.attempt + 1; proposed = (v.proposed + 1) % half v.k; granted = [] }) (IsPlacing v)
-    (λ h. same v) (λ h. record { k = refl; grants = refl; remembered = refl; place = λ settled. refl }))
+    (λ h. same v) (λ h. record { k = refl; grants = refl; freed = refl; remembered = refl; place = λ settled. refl }))
     (λ h. same v)))
     (λ h. same v)
   where
     same : (w : SwitchView) → IsPlacing w w
-    same w = record { k = refl; grants = refl; remembered = refl; place = λ settled. refl }
+    same w = record { k = refl; grants = refl; freed = refl; remembered = refl; place = λ settled. refl }
 
 pub edge_placing : (v : SwitchView) (port : ℕ) → IsPlacing v (becomes_edge (with_port v port (record (port_of v port) { host = true })))
 edge_placing v port = record {
   k = refl;
   grants = refl;
+  freed = refl;
   remembered = refl;
   place = λ settled.
       let s = settled_is v.place settled in

@@ -1,5 +1,5 @@
 -- What the registry becomes once the fabric manager hears of an address: nothing new is registered, or one address, as the newest of its host.
-use Rattle.std.proofs.Common.{◌≡◌, ◌⊎◌, ◌≤◌, ◌+◌, ◌||◌, ℕ, Bool, true, false, cond, List, [], ◌∷◌, map, Option, Some, None, refl, sym, ap, subst, ◌∙◌, inl, inr, arith, le_refl, unwrap_or}
+use Rattle.std.proofs.Common.{◌≡◌, ◌⊎◌, ◌≤◌, ◌+◌, ◌&&◌, ◌||◌, ℕ, Bool, true, false, cond, List, [], ◌∷◌, map, Option, Some, None, refl, sym, ap, subst, ◌∙◌, inl, inr, arith, le_refl, unwrap_or}
 use Rattle.std.specs.List.{find, list_any}
 use Rattle.std.specs.Option.{option_and_then, option_map, option_or}
 use Rattle.std.proofs.lemmas.Bool.{cases_Bool, false≢true, or_parts}
@@ -11,11 +11,10 @@ use Rattle.pl_pmac.specs.declared.pmac.Pmac.{Pmac}
 use Rattle.pl_layouts.specs.Equality.{same_mac, same_pmac}
 use Rattle.pl_layouts.proofs.Exports.{mac_is, mac_itself, pmac_is, pmac_itself}
 use Rattle.pl_node.specs.declared.messages.ToManager.TheVariants as tell
-use Rattle.pl_node.specs.ManagerViews.{Learnt, LearntAddress, Recall, Registration, ip_of, is_newest_of, newest, registered_as, registration, registry}
+use Rattle.pl_node.specs.ManagerViews.{Learnt, LearntAddress, Recall, Registration, ip_of, is_newest_of, learnt_at, newest, registered_as, registration, registry}
 use Rattle.pl_manager_rule.specs.Histories.{Word, known}
 use Rattle.pl_manager_rule.specs.ManagerRule.{ToldAddress, learnt_as, manager_hears, recalled, told_again}
-use Rattle.pl_manager_rule.proofs.Exports.{find_mapped, ips_said, newest_is_first, registry_after}
-use Rattle.pl_law_phases.specs.Tenures.{learnt_at}
+use Rattle.pl_manager_rule.proofs.Exports.{find_mapped, ip_after, newest_again, others_recalled, reached_in_order, registry_after}
 use Rattle.pl_law_addresses.specs.OwnAddresses.{IsOwnIp}
 use Rattle.pl_law_addresses.specs.Registries.{IsGoodRegistry, LeadsToNewer, Registry, registry_of}
 use Rattle.pl_law_addresses.proofs.ChangesKeepAddresses.{KeepsRegistered, leads_kept}
@@ -103,10 +102,6 @@ module _ (k : ℕ) (words : List Word) (s : SwitchId) (x : Pmac) (mac : Mac) (to
   unfolding word reg_now old new manager_hears
   one_more = registry_after (known k words).learnt (record { switch = s; pmac = x; amac = mac; ip = told })
 
-  newest_of : (m : Mac) → newest new m ≡ find (λ (q : Registration). same_mac q.amac m) (registry new)
-  unfolding word new
-  newest_of m = newest_is_first k (word ∷ words) m
-
   address : ToldAddress
   address = record { switch = s; pmac = x; amac = mac; ip = told }
 
@@ -146,7 +141,7 @@ module _ (k : ℕ) (words : List Word) (s : SwitchId) (x : Pmac) (mac : Mac) (to
           recall = ap (λ all. recall_in (found_at all y)) again_addresses ∙ ap recall_in (told_found address old.addresses y) ∙ told_recall address (found_at old.addresses y);
           aged = ap (λ all. aged_in (found_at all y)) again_addresses ∙ ap aged_in (told_found address old.addresses y) ∙ told_aged address (found_at old.addresses y);
         };
-        newest = λ m. newest_of m ∙ ap (λ (rs : List Registration). find (λ q. same_mac q.amac m) rs) same ∙ sym (newest_is_first k words m);
+        newest = λ m. ap (λ all. option_map registered_as (find (is_newest_of m) all)) again_addresses ∙ newest_again address old.addresses m;
         count = ap (λ b. cond b (known k words).learnt.count ((known k words).learnt.count + 1)) there;
       }
 
@@ -171,8 +166,11 @@ module _ (k : ℕ) (words : List Word) (s : SwitchId) (x : Pmac) (mac : Mac) (to
             ∙ ap (λ (z : Pmac). find (λ (p : Registration). same_pmac p.pmac z) (registry old)) same ∙ there.1))
         | inr other ↦ other
       ] in
-      let newest_all : (m : Mac) → find (λ q. same_mac q.amac m) (registry new) ≡ cond (same_mac mac m) (Some reg_now) (find (λ q. same_mac q.amac m) (registry old)) =
-      λ m. ap (λ (rs : List Registration). find (λ q. same_mac q.amac m) rs) same in
+      let led : List LearntAddress = recalled (newest old mac) x (old.count + 1) old.addresses in
+      let newest_all : (m : Mac) (b : Bool) → same_mac mac m ≡ b →
+      newest new m ≡ option_map registered_as (cond (b && true) (Some (learnt_as (old.count + 1) address)) (find (is_newest_of m) led)) =
+      λ m b is. ap (λ all. option_map registered_as (find (is_newest_of m) all)) new_addresses
+      ∙ ap (λ c. option_map registered_as (cond (c && true) (Some (learnt_as (old.count + 1) address)) (find (is_newest_of m) led))) is in
       record {
         none = none_if_not_any (λ (q : Registration). same_pmac q.pmac x) (registry old) fresh;
         here = at_all x ∙ ap (λ b. cond b (Some reg_now) (find (λ q. same_pmac q.pmac x) (registry old))) (pmac_itself x);
@@ -191,15 +189,14 @@ module _ (k : ℕ) (words : List Word) (s : SwitchId) (x : Pmac) (mac : Mac) (to
               recall = ap recall_in (behind y other) ∙ it.recall;
               aged = ap aged_in (behind y other) ∙ it.aged;
             };
-        newest_here = newest_of mac ∙ newest_all mac ∙ ap (λ b. cond b (Some reg_now) (find (λ q. same_mac q.amac mac) (registry old))) (mac_itself mac);
-        newest = λ m other. newest_of m ∙ newest_all m ∙ ap (λ b. cond b (Some reg_now) (find (λ q. same_mac q.amac m) (registry old))) other
-            ∙ sym (newest_is_first k words m);
+        newest_here = newest_all mac true (mac_itself mac);
+        newest = λ m other. newest_all m false other ∙ others_recalled old mac x (old.count + 1) m other (reached_in_order k words).addresses;
         count = ap (λ b. cond b (known k words).learnt.count ((known k words).learnt.count + 1)) fresh;
       }
 
   ip_now : (y : Pmac) → ip_of new y ≡ option_or (cond (same_pmac x y) told None) (ip_of old y)
-  unfolding word old new
-  ip_now y = ips_said k (word ∷ words) y ∙ ap (λ (o : Option Ip4). option_or (cond (same_pmac x y) told None) o) (sym (ips_said k words y))
+  unfolding word old new manager_hears
+  ip_now y = ip_after (known k words).learnt (record { switch = s; pmac = x; amac = mac; ip = told }) y
 
   -- by the test, and by what is told
   from_either : (y : Pmac) (b : Bool) → same_pmac x y ≡ b → (t o : Option Ip4) (ip : Ip4) → option_or (cond b t None) o ≡ Some ip →

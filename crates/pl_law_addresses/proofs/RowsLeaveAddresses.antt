@@ -1,8 +1,8 @@
 -- Parts of a step of a switch that keep its addresses in order, and how they go together.
-use Rattle.std.proofs.Common.{◌≡◌, ◌≤◌, ◌+◌, ℕ, arith, inl, inr, Bool, true, false, if◌then◌else◌, get_or, List, [], ◌∷◌, ◌++◌, length, Option, Some, None, refl, sym, ap, subst, ◌∙◌, append_assoc}
+use Rattle.std.proofs.Common.{◌≡◌, ◌≤◌, ◌+◌, ℕ, arith, inl, inr, Bool, true, false, if◌then◌else◌, List, [], ◌∷◌, ◌++◌, Option, Some, None, refl, sym, ap, subst, ◌∙◌, append_assoc}
 use Rattle.std.specs.List.{AllByRecursion}
-use Rattle.std.proofs.lemmas.Bool.{cases_Bool, cases_lt}
-use Rattle.std.proofs.lemmas.Option.{none-some}
+use Rattle.std.specs.Option.{option_map}
+use Rattle.std.proofs.lemmas.Bool.{cases_Bool, cases_lt, false≢true}
 use Rattle.pl_lemmas.proofs.Exports.{all_append}
 use Rattle.pl_frame.specs.declared.address.Ip4.{Ip4}
 use Rattle.pl_frame.specs.declared.address.Mac.{Mac}
@@ -13,18 +13,17 @@ use Rattle.pl_node.specs.declared.messages.ToManager.{ToManager}
 use Rattle.pl_node.specs.declared.messages.ToManager.TheVariants as tell
 use Rattle.pl_node.specs.declared.messages.ToSwitch.{ToSwitch}
 use Rattle.pl_node.specs.declared.switch_records.Grant.{Grant}
-use Rattle.pl_node.specs.declared.switch_records.Source.{Source}
 use Rattle.pl_node.specs.SwitchViews.{SwitchView}
-use Rattle.pl_layouts.specs.declared.place.Place.{Place}
 use Rattle.pl_pmac.specs.declared.pmac.Pmac.{Pmac}
 use Rattle.pl_layouts.specs.Equality.{same_pmac}
-use Rattle.pl_layouts.proofs.Exports.{pmac_is}
+use Rattle.pl_layouts.proofs.Exports.{pmac_is, pmac_itself}
 use Rattle.pl_steps.specs.Steps.{SwitchStep, does, rests, ◌▹◌}
 use Rattle.pl_switch_rule.specs.Granting.{granted}
-use Rattle.pl_law_phases.specs.Tenures.{told_of, words_of}
+use Rattle.pl_law_phases.specs.Tenures.{is_held, told_of, words_of}
 use Rattle.pl_law_addresses.specs.Registries.{Registry}
-use Rattle.pl_law_addresses.specs.EdgeAddresses.{Edge, IsGoodAddressTable, IsGoodEdge, IsGoodWord, IsGrantedTo, KeepsGrantees, edge_of, is_settled}
+use Rattle.pl_law_addresses.specs.EdgeAddresses.{Edge, IsGoodAddressTable, IsGoodEdge, IsGoodWord, IsHeld, IsHeldFor, KeepsHolders, edge_of, is_live}
 use Rattle.pl_law_addresses.proofs.ChangesKeepAddresses.{tells_more}
+use Rattle.pl_law_addresses.proofs.FreeLists.{table_alike}
 
 -- what acts tell the manager
 abbrev pub told_by : List Act → List ToManager
@@ -40,11 +39,13 @@ told_append (a ∷ xs) ys = told_append xs ys
 -- an act that tells the manager of no address
 abbrev pub IsSilentWord : ToManager → Type 0
 IsSilentWord (tell.Learned pmac amac ip) = ⊥
+IsSilentWord (tell.Aged pmac number) = ⊥
 IsSilentWord told = Unit {0}
 
 abbrev pub IsSilent : Act → Type 0
 IsSilent (act.Tell told) = IsSilentWord told
 IsSilent (act.Grant pmac amac) = ⊥
+IsSilent (act.Free pmac) = ⊥
 IsSilent act = Unit {0}
 
 abbrev pub AreSilent : List Act → Type 0
@@ -52,26 +53,22 @@ AreSilent acts = AllByRecursion IsSilent acts
 
 silent_word : (own : Mac → Option Ip4) (f : Pmac → Option Grant) (told : ToManager) → IsSilentWord told → IsGoodWord own f told
 silent_word own f (tell.Learned pmac amac ip) is = absurd is
-silent_word own f (tell.Place place) is = tt
-silent_word own f (tell.Link u usable) is = tt
-silent_word own f tell.PodWanted is = tt
-silent_word own f (tell.Query asker asker_ip ip) is = tt
-silent_word own f (tell.Members group any) is = tt
+silent_word own f (tell.Aged pmac number) is = absurd is
+silent_word own f told is = tt
 
 silent_words : (own : Mac → Option Ip4) (f : Pmac → Option Grant) (acts : List Act) → AreSilent acts → AllByRecursion (IsGoodWord own f) (told_by acts)
 silent_words own f [] are = tt
 silent_words own f (act.Tell told ∷ acts) are = (silent_word own f told are.0, silent_words own f acts are.1)
-silent_words own f (act.Grant pmac amac ∷ acts) are = absurd are.0
 silent_words own f (a ∷ acts) are = silent_words own f acts are.1
 
 told_silent : (x : Pmac) (told : ToManager) → IsSilentWord told → told_of x told ≡ []
 told_silent x (tell.Learned pmac amac ip) is = absurd is
+told_silent x (tell.Aged pmac number) is = absurd is
 told_silent x told is = refl
 
 words_silent : (acts : List Act) → AreSilent acts → (x : Pmac) → words_of x (told_by acts) ≡ []
 words_silent [] are x = refl
 words_silent (act.Tell told ∷ acts) are x = ap (λ ws. ws ++ words_of x (told_by acts)) (told_silent x told are.0) ∙ words_silent acts are.1 x
-words_silent (act.Grant pmac amac ∷ acts) are x = absurd are.0
 words_silent (a ∷ acts) are x = words_silent acts are.1 x
 
 -- ---- a part that leaves addresses alone
@@ -79,55 +76,97 @@ pub record LeavesAddresses (v : SwitchView) (s : SwitchStep) : Type 0 where
   pub place : s.view.place ≡ v.place
   pub k : s.view.k ≡ v.k
   pub grants : s.view.grants ≡ v.grants
+  pub freed : s.view.freed ≡ v.freed
   pub remembered : s.view.remembered ≡ v.remembered
   pub silent : AreSilent s.acts
 
 pub aside_does : (v : SwitchView) (acts : List Act) → AreSilent acts → LeavesAddresses v (does v acts)
-aside_does v acts are = record { place = refl; k = refl; grants = refl; remembered = refl; silent = are }
+aside_does v acts are = record { place = refl; k = refl; grants = refl; freed = refl; remembered = refl; silent = are }
 
 pub aside_then : (v : SwitchView) (s : SwitchStep) (next : SwitchView → SwitchStep) → LeavesAddresses v s → ((w : SwitchView) → LeavesAddresses w (next w)) → LeavesAddresses v (s ▹ next)
 aside_then v s next a each = let b = each s.view in record {
   place = b.place ∙ a.place;
   k = b.k ∙ a.k;
   grants = b.grants ∙ a.grants;
+  freed = b.freed ∙ a.freed;
   remembered = b.remembered ∙ a.remembered;
   silent = all_append IsSilent s.acts (next s.view).acts a.silent b.silent;
 }
 
--- ---- what was granted stays granted, and what is granted was not
--- an address that is granted now was granted to nobody before, and is granted to this host then
-abbrev pub IsNewGrant : SwitchView → SwitchView → Act → Type 0
-IsNewGrant v w (act.Grant x mac) = (granted v x ≡ None) × IsGrantedTo (λ y. granted w y) x mac
-IsNewGrant v w act = Unit {0}
+-- ---- what is somebody's stays so, and what is granted was nobody's
+-- an address that is granted now was nobody's before, and is this host's then; one that is freed was somebody's, and is nobody's
+abbrev pub SaysSo : SwitchView → SwitchView → Act → Type 0
+SaysSo v w (act.Grant x mac) = (is_live v x ≡ false) × IsHeldFor (λ y. granted w y) x mac
+SaysSo v w (act.Free x) = (is_live v x ≡ true) × (is_live w x ≡ false)
+SaysSo v w act = Unit {0}
 
--- how often acts grant an address
+-- how often acts grant an address, and free it
 abbrev pub grant_acts : Pmac → List Act → ℕ
 grant_acts x [] = 0
 grant_acts x (act.Grant y mac ∷ acts) = (if same_pmac y x then 1 else 0) + grant_acts x acts
 grant_acts x (act ∷ acts) = grant_acts x acts
+
+abbrev pub free_acts : Pmac → List Act → ℕ
+free_acts x [] = 0
+free_acts x (act.Free y ∷ acts) = (if same_pmac y x then 1 else 0) + free_acts x acts
+free_acts x (act ∷ acts) = free_acts x acts
 
 grant_acts_append : (x : Pmac) (a b : List Act) → grant_acts x (a ++ b) ≡ grant_acts x a + grant_acts x b
 grant_acts_append x [] b = omega arith
 grant_acts_append x (act.Grant y mac ∷ a) b = let rest = grant_acts_append x a b in omega (arith, rest)
 grant_acts_append x (act ∷ a) b = grant_acts_append x a b
 
+free_acts_append : (x : Pmac) (a b : List Act) → free_acts x (a ++ b) ≡ free_acts x a + free_acts x b
+free_acts_append x [] b = omega arith
+free_acts_append x (act.Free y ∷ a) b = let rest = free_acts_append x a b in omega (arith, rest)
+free_acts_append x (act ∷ a) b = free_acts_append x a b
+
+-- a live address is somebody's, and one that is somebody's is live
+pub live_held : (v : SwitchView) (x : Pmac) → is_live v x ≡ true → IsHeld (λ y. granted v y) x
+live_held v x live = by (granted v x) refl live
+  where
+    by : (o : Option Grant) → granted v x ≡ o → is_held (option_map (λ (g : Grant). g.held) o) ≡ true → IsHeld (λ y. granted v y) x
+    by None is some = absurd (false≢true some)
+    by (Some g) is some = (g.amac, record { grant = g; found = is; held = some; to = refl })
+
+pub held_live : (v : SwitchView) (x : Pmac) (mac : Mac) → IsHeldFor (λ y. granted v y) x mac → is_live v x ≡ true
+held_live v x mac h = ap (λ (o : Option Grant). is_held (option_map (λ (g : Grant). g.held) o)) h.found ∙ h.held
+
+pub not_held : (v : SwitchView) (x : Pmac) (mac : Mac) → is_live v x ≡ false → IsHeldFor (λ y. granted v y) x mac → ⊥
+not_held v x mac none h = false≢true (sym none ∙ held_live v x mac h)
+
+-- no act frees one
 pub record Grows (v : SwitchView) (s : SwitchStep) : Type 0 where
   pub once : (x : Pmac) → grant_acts x s.acts ≤ 1
-  pub stays : KeepsGrantees (λ x. granted v x) (λ x. granted s.view x)
-  pub fresh : AllByRecursion (IsNewGrant v s.view) s.acts
+  pub stays : KeepsHolders (λ x. granted v x) (λ x. granted s.view x)
+  pub says : AllByRecursion (SaysSo v s.view) s.acts
+  pub frees_none : (x : Pmac) → free_acts x s.acts ≡ 0
 
--- where one of the acts grants an address, it was granted to nobody before, and is granted then
+-- or it may
+pub record Turns (v : SwitchView) (s : SwitchStep) : Type 0 where
+  pub once : (x : Pmac) → grant_acts x s.acts + free_acts x s.acts ≤ 1
+  pub stays : (x : Pmac) (mac : Mac) → free_acts x s.acts ≡ 0 → IsHeldFor (λ y. granted v y) x mac → IsHeldFor (λ y. granted s.view y) x mac
+  pub says : AllByRecursion (SaysSo v s.view) s.acts
+
+pub grows_turns : (v : SwitchView) (s : SwitchStep) → Grows v s → Turns v s
+grows_turns v s g = record {
+  once = λ x. let few = g.once x in let none = g.frees_none x in omega (arith, few, none);
+  stays = λ x mac none h. g.stays x mac h;
+  says = g.says;
+}
+
+-- where one of the acts grants an address, it was nobody's before, and is somebody's then
 pub record IsGrantedThen (v w : SwitchView) (x : Pmac) : Type 0 where
-  pub none : granted v x ≡ None
+  pub none : is_live v x ≡ false
   pub mac : Mac
-  pub granted_to : IsGrantedTo (λ y. granted w y) x mac
+  pub granted_to : IsHeldFor (λ y. granted w y) x mac
 
-pub some_grant : (v w : SwitchView) (x : Pmac) (acts : List Act) → AllByRecursion (IsNewGrant v w) acts → 1 ≤ grant_acts x acts → IsGrantedThen v w x
+pub some_grant : (v w : SwitchView) (x : Pmac) (acts : List Act) → AllByRecursion (SaysSo v w) acts → 1 ≤ grant_acts x acts → IsGrantedThen v w x
 some_grant v w x [] all some = absurd (omega (arith, some))
 some_grant v w x (act.Grant y mac ∷ acts) all some = elim (cases_Bool (same_pmac y x)) [
   | inl same ↦
       let is = pmac_is y x same in
-      record { none = ap (λ z. granted v z) (sym is) ∙ all.0.0; mac = mac; granted_to = subst (λ (z : Pmac). IsGrantedTo (λ u. granted w u) z mac) is all.0.1 }
+      record { none = ap (λ z. is_live v z) (sym is) ∙ all.0.0; mac = mac; granted_to = subst (λ (z : Pmac). IsHeldFor (λ u. granted w u) z mac) is all.0.1 }
   | inr other ↦
       some_grant v w x acts all.1
       (let sum : (if same_pmac y x then 1 else 0) + grant_acts x acts ≡ 0 + grant_acts x acts = ap (λ b. (if b then 1 else 0) + grant_acts x acts) other in omega (arith, some, sum))
@@ -139,31 +178,61 @@ silent_counts x [] are = refl
 silent_counts x (act.Grant y mac ∷ acts) are = absurd are.0
 silent_counts x (a ∷ acts) are = silent_counts x acts are.1
 
-never_before : (v w : SwitchView) → KeepsGrantees (λ x. granted v x) (λ x. granted w x) → (x : Pmac) → granted w x ≡ None → granted v x ≡ None
-never_before v w stays x none = by (granted v x) refl
+silent_frees : (x : Pmac) (acts : List Act) → AreSilent acts → free_acts x acts ≡ 0
+silent_frees x [] are = refl
+silent_frees x (act.Free y ∷ acts) are = absurd are.0
+silent_frees x (a ∷ acts) are = silent_frees x acts are.1
+
+never_before : (v w : SwitchView) → KeepsHolders (λ x. granted v x) (λ x. granted w x) → (x : Pmac) → is_live w x ≡ false → is_live v x ≡ false
+never_before v w stays x none = by (is_live v x) refl
   where
-    by : (o : Option Grant) → granted v x ≡ o → granted v x ≡ None
-    by None is = is
-    by (Some g) is = let still = stays x g.amac (record { grant = g; found = is; to = refl }) in absurd (none-some still.grant (sym none ∙ still.found))
+    by : (b : Bool) → is_live v x ≡ b → is_live v x ≡ false
+    by false is = is
+    by true is = let h = live_held v x is in absurd (not_held w x h.0 none (stays x h.0 h.1))
+
+still_live : (v w : SwitchView) → KeepsHolders (λ x. granted v x) (λ x. granted w x) → (x : Pmac) → is_live v x ≡ true → is_live w x ≡ true
+still_live v w stays x live = let h = live_held v x live in held_live w x h.0 (stays x h.0 h.1)
+
+-- acts that free nothing
+abbrev FreesNone : Act → Type 0
+FreesNone (act.Free x) = ⊥
+FreesNone act = Unit {0}
+
+none_frees : (acts : List Act) → ((x : Pmac) → free_acts x acts ≡ 0) → AllByRecursion FreesNone acts
+none_frees [] none = tt
+none_frees (act.Free y ∷ acts) none =
+    let more : (if same_pmac y y then 1 else 0) + free_acts y acts ≡ 1 + free_acts y acts = ap (λ b. (if b then 1 else 0) + free_acts y acts) (pmac_itself y) in
+    let zero = none y in absurd (omega (arith, more, zero))
+none_frees (a ∷ acts) none = (tt, none_frees acts none)
 
 -- seen from an earlier view, and up to a later one
-seen_from : (u v w : SwitchView) → KeepsGrantees (λ x. granted u x) (λ x. granted v x) → (acts : List Act) → AllByRecursion (IsNewGrant v w) acts → AllByRecursion (IsNewGrant u w) acts
-seen_from u v w stays [] all = tt
-seen_from u v w stays (act.Grant x mac ∷ acts) all = ((never_before u v stays x all.0.0, all.0.1), seen_from u v w stays acts all.1)
-seen_from u v w stays (a ∷ acts) all = (tt, seen_from u v w stays acts all.1)
+seen_from : (u v w : SwitchView) → KeepsHolders (λ x. granted u x) (λ x. granted v x) → (acts : List Act) → AllByRecursion FreesNone acts → AllByRecursion (SaysSo v w) acts →
+    AllByRecursion (SaysSo u w) acts
+seen_from u v w stays [] none all = tt
+seen_from u v w stays (act.Grant x mac ∷ acts) none all = ((never_before u v stays x all.0.0, all.0.1), seen_from u v w stays acts none.1 all.1)
+seen_from u v w stays (act.Free x ∷ acts) none all = absurd none.0
+seen_from u v w stays (a ∷ acts) none all = (tt, seen_from u v w stays acts none.1 all.1)
 
-seen_later : (v w z : SwitchView) → KeepsGrantees (λ x. granted w x) (λ x. granted z x) → (acts : List Act) → AllByRecursion (IsNewGrant v w) acts → AllByRecursion (IsNewGrant v z) acts
-seen_later v w z stays [] all = tt
-seen_later v w z stays (act.Grant x mac ∷ acts) all = ((all.0.0, stays x mac all.0.1), seen_later v w z stays acts all.1)
-seen_later v w z stays (a ∷ acts) all = (tt, seen_later v w z stays acts all.1)
+seen_later : (v w z : SwitchView) → KeepsHolders (λ x. granted w x) (λ x. granted z x) → (acts : List Act) → AllByRecursion FreesNone acts → AllByRecursion (SaysSo v w) acts →
+    AllByRecursion (SaysSo v z) acts
+seen_later v w z stays [] none all = tt
+seen_later v w z stays (act.Grant x mac ∷ acts) none all = ((all.0.0, stays x mac all.0.1), seen_later v w z stays acts none.1 all.1)
+seen_later v w z stays (act.Free x ∷ acts) none all = absurd none.0
+seen_later v w z stays (a ∷ acts) none all = (tt, seen_later v w z stays acts none.1 all.1)
 
-silent_grants : (v w : SwitchView) (acts : List Act) → AreSilent acts → AllByRecursion (IsNewGrant v w) acts
-silent_grants v w [] are = tt
-silent_grants v w (act.Grant x mac ∷ acts) are = absurd are.0
-silent_grants v w (a ∷ acts) are = (tt, silent_grants v w acts are.1)
+silent_says : (v w : SwitchView) (acts : List Act) → AreSilent acts → AllByRecursion (SaysSo v w) acts
+silent_says v w [] are = tt
+silent_says v w (act.Grant x mac ∷ acts) are = absurd are.0
+silent_says v w (act.Free x ∷ acts) are = absurd are.0
+silent_says v w (a ∷ acts) are = (tt, silent_says v w acts are.1)
 
-pub grows_from : (u v : SwitchView) (s : SwitchStep) → KeepsGrantees (λ x. granted u x) (λ x. granted v x) → Grows v s → Grows u s
-grows_from u v s stays g = record { once = g.once; stays = λ x mac is. g.stays x mac (stays x mac is); fresh = seen_from u v s.view stays s.acts g.fresh }
+pub grows_from : (u v : SwitchView) (s : SwitchStep) → KeepsHolders (λ x. granted u x) (λ x. granted v x) → Grows v s → Grows u s
+grows_from u v s stays g = record {
+  once = g.once;
+  stays = λ x mac is. g.stays x mac (stays x mac is);
+  says = seen_from u v s.view stays s.acts (none_frees s.acts g.frees_none) g.says;
+  frees_none = g.frees_none;
+}
 
 pub grows_then : (v : SwitchView) (s : SwitchStep) (next : SwitchView → SwitchStep) → Grows v s → Grows s.view (next s.view) → Grows v (s ▹ next)
 grows_then v s next a b = record {
@@ -176,25 +245,34 @@ grows_then v s next a b = record {
         | inl some ↦ elim (cases_lt 0 (grant_acts x (next s.view).acts)) [
           | inr none ↦ omega (arith, sum, none, first)
           | inl more ↦
-              let one = some_grant v s.view x s.acts a.fresh (omega (arith, some)) in
-              let two = some_grant s.view (next s.view).view x (next s.view).acts b.fresh (omega (arith, more)) in
-              absurd (none-some one.granted_to.grant (sym two.none ∙ one.granted_to.found))
+              let one = some_grant v s.view x s.acts a.says (omega (arith, some)) in
+              let two = some_grant s.view (next s.view).view x (next s.view).acts b.says (omega (arith, more)) in
+              absurd (not_held s.view x one.mac two.none one.granted_to)
         ]
       ];
   stays = λ x mac is. b.stays x mac (a.stays x mac is);
-  fresh = all_append (IsNewGrant v (next s.view).view) s.acts (next s.view).acts (seen_later v s.view (next s.view).view b.stays s.acts a.fresh)
-      (seen_from v s.view (next s.view).view a.stays (next s.view).acts b.fresh);
+  says = all_append (SaysSo v (next s.view).view) s.acts (next s.view).acts
+      (seen_later v s.view (next s.view).view b.stays s.acts (none_frees s.acts a.frees_none) a.says)
+      (seen_from v s.view (next s.view).view a.stays (next s.view).acts (none_frees (next s.view).acts b.frees_none) b.says);
+  frees_none = λ x.
+      let sum = free_acts_append x s.acts (next s.view).acts in let one = a.frees_none x in let two = b.frees_none x in omega (arith, sum, one, two);
 }
 
-pub same_grantees : (v w : SwitchView) → w.place ≡ v.place → w.grants ≡ v.grants → KeepsGrantees (λ x. granted v x) (λ x. granted w x)
-same_grantees v w place grants = λ x mac is. record {
+pub same_holders : (v w : SwitchView) → w.place ≡ v.place → w.grants ≡ v.grants → KeepsHolders (λ x. granted v x) (λ x. granted w x)
+same_holders v w place grants = λ x mac is. record {
   grant = is.grant;
   found = (λ i. granted (record v { place = place i; grants = grants i }) x) ∙ is.found;
+  held = is.held;
   to = is.to;
 }
 
 pub grows_aside : (v : SwitchView) (s : SwitchStep) → LeavesAddresses v s → Grows v s
-grows_aside v s a = record { once = λ x. (let none = silent_counts x s.acts a.silent in omega (arith, none)); stays = same_grantees v s.view a.place a.grants; fresh = silent_grants v s.view s.acts a.silent }
+grows_aside v s a = record {
+  once = λ x. (let none = silent_counts x s.acts a.silent in omega (arith, none));
+  stays = same_holders v s.view a.place a.grants;
+  says = silent_says v s.view s.acts a.silent;
+  frees_none = λ x. silent_frees x s.acts a.silent;
+}
 
 -- ---- an edge switch in order, while so much waits to the manager and from it
 module _ (own : Mac → Option Ip4) (r : Registry) (id : Option SwitchId) (down : List ToSwitch) where
@@ -230,22 +308,16 @@ module _ (own : Mac → Option Ip4) (r : Registry) (id : Option SwitchId) (down 
   same_edge : (v w : SwitchView) (up : List ToManager) → w.place ≡ v.place → w.grants ≡ v.grants → edge_of id v up down ≡ edge_of id w up down
   same_edge v w up place grants = λ i. edge_of id (record v { place = sym place i; grants = sym grants i }) up down
 
-  same_address_table : (v w : SwitchView) → w.place ≡ v.place → w.k ≡ v.k → w.grants ≡ v.grants → w.remembered ≡ v.remembered → IsGoodAddressTable own v → IsGoodAddressTable own w
-  same_address_table v w place k grants remembered b = record {
-    many = ap (λ (gs : List (List Grant)). length gs) grants ∙ b.many ∙ sym k;
-    empty = λ unsettled port. ap (λ (gs : List (List Grant)). get_or gs port []) grants ∙ b.empty (ap (λ (p : Place). is_settled p) (sym place) ∙ unsettled) port;
-    sources = λ port source is. b.sources port source (ap (λ (ss : List (Option Source)). get_or ss port None) (sym remembered) ∙ is);
-  }
-
-  pub same_good : (v w : SwitchView) (up : List ToManager) → w.place ≡ v.place → w.k ≡ v.k → w.grants ≡ v.grants → w.remembered ≡ v.remembered → Good v up → Good w up
-  same_good v w up place k grants remembered good = record {
+  pub same_good : (v w : SwitchView) (up : List ToManager) → w.place ≡ v.place → w.k ≡ v.k → w.grants ≡ v.grants → w.freed ≡ v.freed → w.remembered ≡ v.remembered → Good v up →
+      Good w up
+  same_good v w up place k grants freed remembered good = record {
     edge = subst (λ (e : Edge). IsGoodEdge own r e) (same_edge v w up place grants) good.edge;
-    address_table = same_address_table v w place k grants remembered good.address_table;
+    address_table = table_alike own v w place k grants freed remembered good.address_table;
   }
 
   pub aside_keeps : (v : SwitchView) (s : SwitchStep) → LeavesAddresses v s → Keeps v s
   aside_keeps v s a = record {
-    good = λ up good. let same = same_good v s.view up a.place a.k a.grants a.remembered good in record {
+    good = λ up good. let same = same_good v s.view up a.place a.k a.grants a.freed a.remembered good in record {
       edge = tells_more own r (edge_of id s.view up down) (told_by s.acts) (silent_words own (edge_of id s.view up down).granted s.acts a.silent) (words_silent s.acts a.silent) same.edge;
       address_table = same.address_table;
     };

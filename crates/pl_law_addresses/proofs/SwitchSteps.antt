@@ -1,7 +1,6 @@
 -- Each row of a switch keeps its addresses in order.
-use Rattle.std.proofs.Common.{◌≡◌, ◌<◌, ◌||◌, ℕ, true, false, List, [], ◌∷◌, ◌++◌, length, Option, Some, Result, Ok, Err, refl, sym, ap, subst, ◌∙◌, inl, inr, arith}
-use Rattle.std.proofs.lemmas.Bool.{cases_lt, cond_both}
-use Rattle.std.proofs.lemmas.List.{get_or_past}
+use Rattle.std.proofs.Common.{◌≡◌, ◌<◌, ◌||◌, ℕ, true, false, List, [], ◌∷◌, ◌++◌, Option, Some, Result, Ok, Err, refl, sym, ap, subst, ◌∙◌}
+use Rattle.std.proofs.lemmas.Bool.{cond_both}
 use Rattle.pl_frame.specs.declared.address.Ip4.{Ip4}
 use Rattle.pl_frame.specs.declared.address.Mac.{Mac}
 use Rattle.pl_frame.specs.declared.address.SwitchId.{SwitchId}
@@ -11,7 +10,6 @@ use Rattle.pl_node.specs.declared.acts.Act.TheVariants as act
 use Rattle.pl_node.specs.declared.messages.ToManager.{ToManager}
 use Rattle.pl_node.specs.declared.messages.ToSwitch.{ToSwitch}
 use Rattle.pl_node.specs.declared.messages.ToSwitch.TheVariants as say
-use Rattle.pl_node.specs.declared.switch_records.Grant.{Grant}
 use Rattle.pl_node.specs.PortRecords.{is_open_to_hosts, port_of, with_port}
 use Rattle.pl_node.specs.SwitchInputs.{SwitchInput}
 use Rattle.pl_node.specs.SwitchInputs.SwitchInput.{Comes, Says, Tick}
@@ -26,26 +24,27 @@ use Rattle.pl_layouts.specs.Placement.{is_known}
 use Rattle.pl_steps.specs.Steps.{SwitchStep, does, rests, ◌▹◌}
 use Rattle.pl_switch_rule.specs.Announcing.{ticks}
 use Rattle.pl_switch_rule.specs.Forwarding.{Choice}
-use Rattle.pl_switch_rule.specs.Granting.{granted, grants_at, is_granted, learns_source, sender_ip}
+use Rattle.pl_switch_rule.specs.Granting.{granted, held_here, is_granted, learns_source, sender_ip}
 use Rattle.pl_switch_rule.specs.Intake.{comes_from_host, takes_in_or_spent}
 use Rattle.pl_switch_rule.specs.Levels.{after_message, becomes_edge, changes_to, finds_host, with_pod}
 use Rattle.pl_switch_rule.specs.Delivering.{makes}
-use Rattle.pl_switch_rule.specs.Messages.{answer_frame, flood_frame, floods, hears_manager, invalidates, takes_pod}
+use Rattle.pl_switch_rule.specs.Messages.{answer_frame, flood_frame, floods, frees, hears_manager, invalidates, takes_pod}
 use Rattle.pl_switch_rule.specs.Positions.{after_vote}
 use Rattle.pl_switch_rule.specs.SwitchRule.{comes_from_switch, control_comes, data_comes, hears_control, switch_step}
-use Rattle.pl_switch_rule.proofs.Exports.{granted_parts}
 use Rattle.pl_law_addresses.specs.OwnAddresses.{IsOwnIp}
 use Rattle.pl_law_addresses.specs.Registries.{Registry}
 use Rattle.pl_law_phases.specs.Tenures.{order_of}
-use Rattle.pl_law_phases.specs.Tenures.Order.{Recalls}
-use Rattle.pl_law_phases.proofs.Exports.{ordered_here}
+use Rattle.pl_law_phases.specs.Tenures.Order.{Recalls, Releases}
+use Rattle.pl_law_phases.proofs.Exports.{ordered_here, released_here}
 use Rattle.pl_law_addresses.specs.EdgeAddresses.{IsGoodRecall, edge_of, is_settled}
-use Rattle.pl_law_addresses.proofs.Asides.{floods_aside, makes_aside, proposal_aside, switch_frame_aside, takes_in_aside, ticks_aside}
+use Rattle.pl_law_addresses.proofs.Asides.{floods_aside, makes_aside, proposal_aside, switch_frame_aside, takes_in_aside}
 use Rattle.pl_law_addresses.proofs.ChangesKeepAddresses.{takes_order}
 use Rattle.pl_law_addresses.proofs.Granting.{keeps_learns_source}
-use Rattle.pl_law_addresses.proofs.GrantsByNumber.{number_within}
+use Rattle.pl_law_addresses.proofs.GrantsByNumber.{granted_within}
+use Rattle.pl_law_addresses.proofs.OlderAddresses.{keeps_tick}
 use Rattle.pl_law_addresses.proofs.Placing.{IsUnknown, Steps, aside_steps, edge_placing, keeps_changes, keeps_steps, message_placing, pod_placing, steps_changes, steps_either, steps_then, vote_placing}
-use Rattle.pl_law_addresses.proofs.RowsLeaveAddresses.{Good, Grows, aside_does, aside_keeps, rests_keeps, told_by}
+use Rattle.pl_law_addresses.proofs.RowsLeaveAddresses.{Good, Turns, aside_does, aside_keeps, grows_turns, rests_keeps, told_by}
+use Rattle.pl_law_addresses.proofs.Releasing.{Released, release_good}
 use Rattle.pl_law_addresses.proofs.Trapping.{Invalidated, recall_good}
 
 -- what comes as of a host comes at a port that is there, and gives the host's own IPv4 address
@@ -57,17 +56,6 @@ abbrev pub IsFair : (Mac → Option Ip4) → SwitchView → SwitchInput → Type
 IsFair own v (Comes port frame) = is_control frame ≡ false → is_open_to_hosts (port_of v port) ≡ true → IsOfHost own v port frame
 IsFair own v Tick = Unit {0}
 IsFair own v (Says says) = Unit {0}
-
--- a port at which something was granted is there
-pub granted_within : (v : SwitchView) (x : Pmac) (g : Grant) → granted v x ≡ Some g → length v.grants ≡ v.k → x.port < v.k
-granted_within v x g is many = elim (cases_lt x.port (length v.grants)) [
-  | inl less ↦ subst (λ n. x.port < n) many less
-  | inr past ↦
-      let most = (number_within (grants_at v x.port) x.vmid g (granted_parts v x g is).1) in
-      let none : grants_at v x.port ≡ [] = get_or_past v.grants x.port [] past in
-      let zero : length (grants_at v x.port) ≡ 0 = ap (λ (gs : List Grant). length gs) none in
-      absurd (omega (arith, most.0, most.1, zero))
-]
 
 module _ (own : Mac → Option Ip4) (r : Registry) (id : Option SwitchId) (choose : Choice) where
   module _ (down : List ToSwitch) where
@@ -107,9 +95,9 @@ module _ (own : Mac → Option Ip4) (r : Registry) (id : Option SwitchId) (choos
         (λ takes. steps_changes own r id down v (with_pod v (Some pod)) (pod_placing v pod takes))
         (λ h. keeps_steps own r id down v (rests v) (rests_keeps own r id down v))
     says_row v (say.Avoid list) quiet = aside_steps own r id down v (hears_manager choose v (say.Avoid list))
-        (record { place = refl; k = refl; grants = refl; remembered = refl; silent = tt })
+        (record { place = refl; k = refl; grants = refl; freed = refl; remembered = refl; silent = tt })
     says_row v (say.Tree group part) quiet = aside_steps own r id down v (hears_manager choose v (say.Tree group part))
-        (record { place = refl; k = refl; grants = refl; remembered = refl; silent = tt })
+        (record { place = refl; k = refl; grants = refl; freed = refl; remembered = refl; silent = tt })
     says_row v (say.Answer asker asker_ip ip pmac) quiet =
         steps_either own r id down v (is_granted v asker) (makes choose (answer_frame asker asker_ip ip pmac) v) (rests v)
         (λ h. aside_steps own r id down v (makes choose (answer_frame asker asker_ip ip pmac) v) (makes_aside choose (answer_frame asker asker_ip ip pmac) v))
@@ -118,16 +106,17 @@ module _ (own : Mac → Option Ip4) (r : Registry) (id : Option SwitchId) (choos
         steps_either own r id down v (is_granted v asker) (floods v (flood_frame asker asker_ip ip)) (rests v)
         (λ h. aside_steps own r id down v (floods v (flood_frame asker asker_ip ip)) (floods_aside v (flood_frame asker asker_ip ip)))
         (λ h. keeps_steps own r id down v (rests v) (rests_keeps own r id down v))
+    says_row v (say.Release x) quiet = let e : Releases ∷ [] ≡ [] = sym (released_here x) ∙ quiet x in absurd (cc)
     says_row v (say.Invalidate old new number ip) quiet = let e : Recalls new number ∷ [] ≡ [] = sym (ordered_here old new number ip) ∙ quiet old in absurd (cc)
 
   -- what a step brings about, from what waited before it to what waits after it
   pub record Brings (before after : List ToSwitch) (v : SwitchView) (s : SwitchStep) : Type 0 where
     pub good : IsUnknown r v s.view.place → (up : List ToManager) → Good own r id before v up → Good own r id after s.view (up ++ told_by s.acts)
-    pub grows : (up : List ToManager) → IsUnknown r v s.view.place → Good own r id before v up → Grows v s
+    pub turns : (up : List ToManager) → IsUnknown r v s.view.place → Good own r id before v up → Turns v s
     pub place : (up : List ToManager) → Good own r id before v up → is_settled v.place ≡ true → s.view.place ≡ v.place
 
   of_steps : (down : List ToSwitch) (v : SwitchView) (s : SwitchStep) → Steps own r id down v s → Brings down down v s
-  of_steps down v s a = record { good = a.good; grows = a.grows; place = λ up good settled. a.place settled }
+  of_steps down v s a = record { good = a.good; turns = λ up unknown good. grows_turns v s (a.grows up unknown good); place = λ up good settled. a.place settled }
 
   pub brings_frame : (down : List ToSwitch) (v : SwitchView) (port : ℕ) (frame : List ℕ) →
       (is_control frame ≡ false → is_open_to_hosts (port_of v port) ≡ true → IsOfHost own v port frame) →
@@ -135,29 +124,40 @@ module _ (own : Mac → Option Ip4) (r : Registry) (id : Option SwitchId) (choos
   brings_frame down v port frame fair = of_steps down v (switch_step choose v (Comes port frame)) (comes_row down v port frame fair)
 
   pub brings_tick : (down : List ToSwitch) (v : SwitchView) → Brings down down v (switch_step choose v Tick)
-  brings_tick down v = of_steps down v (ticks v) (aside_steps own r id down v (ticks v) (ticks_aside v))
+  brings_tick down v = of_steps down v (ticks v) (keeps_steps own r id down v (ticks v) (keeps_tick own r id down v))
 
   quiet_order : (rest : List ToSwitch) (v : SwitchView) (says : ToSwitch) → ((x : Pmac) → order_of x says ≡ []) → Brings (says ∷ rest) rest v (hears_manager choose v says)
   quiet_order rest v says quiet =
       let a = says_row rest v says quiet in
       record {
         good = λ unknown up good. a.good unknown up (record { edge = takes_order own r (edge_of id v up rest) says rest quiet good.edge; address_table = good.address_table });
-        grows = λ up unknown good. a.grows up unknown (record { edge = takes_order own r (edge_of id v up rest) says rest quiet good.edge; address_table = good.address_table });
+        turns = λ up unknown good.
+            grows_turns v (hears_manager choose v says)
+            (a.grows up unknown (record { edge = takes_order own r (edge_of id v up rest) says rest quiet good.edge; address_table = good.address_table }));
         place = λ up good settled. a.place settled;
       }
 
   pub brings_order : (rest : List ToSwitch) (v : SwitchView) (says : ToSwitch) → Brings (says ∷ rest) rest v (switch_step choose v (Says says))
   brings_order rest v (say.Invalidate old new number ip) = record {
     good = λ unknown up good. (recalled up good).good;
-    grows = λ up unknown good. (recalled up good).grows;
+    turns = λ up unknown good.
+        grows_turns v (invalidates v old (record { new = new; number = number; ip = ip }) (held_here v old)) (recalled up good).grows;
     place = λ up good settled. (recalled up good).place;
   }
     where
       recalled : (up : List ToManager) → Good own r id (say.Invalidate old new number ip ∷ rest) v up →
-          Invalidated own r id rest old new number ip v up (invalidates v old (record { new = new; number = number; ip = ip }) (granted v old))
+          Invalidated own r id rest old new number ip v up (invalidates v old (record { new = new; number = number; ip = ip }) (held_here v old))
       recalled up good =
           let said : IsGoodRecall own (λ z. granted v z) old ip = good.edge.orders.0 in
           recall_good own r id rest old new number ip v up good (granted_within v old said.granted_to.grant said.granted_to.found good.address_table.many)
+  brings_order rest v (say.Release x) = record {
+    good = λ unknown up good. (released up good).good;
+    turns = λ up unknown good. (released up good).turns;
+    place = λ up good settled. (released up good).place;
+  }
+    where
+      released : (up : List ToManager) → Good own r id (say.Release x ∷ rest) v up → Released own r id rest x v up (frees v x (granted v x))
+      released up good = release_good own r id rest x v up good
   brings_order rest v (say.Pod pod) = quiet_order rest v (say.Pod pod) (λ x. refl)
   brings_order rest v (say.Avoid list) = quiet_order rest v (say.Avoid list) (λ x. refl)
   brings_order rest v (say.Tree group part) = quiet_order rest v (say.Tree group part) (λ x. refl)

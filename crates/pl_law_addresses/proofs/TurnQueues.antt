@@ -11,7 +11,7 @@ use Rattle.pl_node.specs.HostViews.{HostView}
 use Rattle.pl_node.specs.ManagerViews.{ManagerView}
 use Rattle.pl_node.specs.SwitchViews.{SwitchView}
 use Rattle.pl_journal.specs.declared.entry.Entry.{Entry}
-use Rattle.pl_journal.specs.declared.entry.Entry.TheVariants.{Copied, Crossed, Dropped, Granted, Made, Placed, Redirected, Sent, Taken}
+use Rattle.pl_journal.specs.declared.entry.Entry.TheVariants.{Copied, Crossed, Dropped, Freed, Granted, Made, Placed, Redirected, Sent, Taken}
 use Rattle.pl_journal.specs.declared.cause.Cause.TheVariants.{LinkDown}
 use Rattle.pl_layouts.specs.Equality.{same_pmac}
 use Rattle.pl_layouts.specs.Placement.{same_place}
@@ -25,8 +25,8 @@ use Rattle.pl_world.specs.Changes.{all_noted, begun_by, host_no, host_of, is_fai
 use Rattle.pl_world.specs.OtherActs.{host_act_done}
 use Rattle.pl_world.specs.SwitchActs.{DuringActs, act_done, acts_done, begins, crossed_again, ended, granted, passed, redirected, switch_stepped, with_late}
 use Rattle.pl_world.specs.Worlds.{WorldView}
-use Rattle.pl_law_addresses.specs.GrantedOnce.{times_granted}
-use Rattle.pl_law_addresses.proofs.Entries.{AreNoAddressEntries, IsNoAddressEntry, quiet_append, quiet_if, quiet_times, times_append}
+use Rattle.pl_law_addresses.specs.GrantedOnce.{times_freed, times_granted}
+use Rattle.pl_law_addresses.proofs.Entries.{AreNoAddressEntries, IsNoAddressEntry, freed_append, quiet_append, quiet_freed, quiet_if, quiet_times, times_append}
 use Rattle.pl_law_addresses.proofs.RowsLeaveAddresses.{told_by}
 
 -- what addresses stand on in a world
@@ -38,11 +38,12 @@ pub record Parts : Type 0 where
   pub down : List (List ToSwitch)
   pub hosts : List HostView
   pub from_hosts : List (List Item)
-  -- and how often each address was granted
+  -- and how often each address was granted, and freed
   pub times : Pmac → ℕ
+  pub freed : Pmac → ℕ
 
 abbrev pub parts_of : WorldView → Parts
-parts_of w = record { plan = w.plan; manager = w.manager; switches = w.switches; up = w.to_manager; down = w.from_manager; hosts = w.hosts; from_hosts = w.from_hosts; times = λ x. times_granted x w.journal }
+parts_of w = record { plan = w.plan; manager = w.manager; switches = w.switches; up = w.to_manager; down = w.from_manager; hosts = w.hosts; from_hosts = w.from_hosts; times = λ x. times_granted x w.journal; freed = λ x. times_freed x w.journal }
 
 -- several items are put behind a queue
 abbrev pub all_put : {T : Type 0} → ℕ → List (List T) → List T → List (List T)
@@ -65,9 +66,9 @@ module _ {T : Type 0} (s : ℕ) where
   put_many queues [] = refl
   put_many queues (x ∷ xs) = put_many (put_at queues s x) xs ∙ length-set queues s (items_at queues s ++ x ∷ [])
 
--- entries that grant nothing change nothing here
+-- entries that neither grant nor free an address change nothing here
 pub quiet_parts : (w : WorldView) (entries : List Entry) → AreNoAddressEntries entries → parts_of (all_noted w entries) ≡ parts_of w
-quiet_parts w entries quiet = λ i. record (parts_of w) { times = λ x. quiet_times w.journal entries quiet x i }
+quiet_parts w entries quiet = λ i. record (parts_of w) { times = λ x. quiet_times w.journal entries quiet x i; freed = λ x. quiet_freed w.journal entries quiet x i }
 
 pub one_quiet : (w : WorldView) (e : Entry) → IsNoAddressEntry e → parts_of (noted w e) ≡ parts_of w
 one_quiet w e quiet = quiet_parts w (e ∷ []) (quiet, tt)
@@ -82,18 +83,39 @@ times_after plan t [] = t
 times_after plan t (act.Grant pmac amac ∷ acts) = times_after plan (granted_more t pmac (host_of plan amac)) acts
 times_after plan t (act ∷ acts) = times_after plan t acts
 
+-- an address is freed once more
+abbrev pub freed_more : (Pmac → ℕ) → Pmac → Pmac → ℕ
+freed_more t pmac = λ x. t x + (if same_pmac pmac x then 1 else 0)
+
+abbrev pub freed_after : (Pmac → ℕ) → List Act → Pmac → ℕ
+freed_after t [] = t
+freed_after t (act.Free pmac ∷ acts) = freed_after (freed_more t pmac) acts
+freed_after t (act ∷ acts) = freed_after t acts
+
 abbrev with_acts : ℕ → Parts → List Act → Parts
-with_acts s p acts = record p { up = all_put s p.up (told_by acts); times = times_after p.plan p.times acts }
+with_acts s p acts = record p { up = all_put s p.up (told_by acts); times = times_after p.plan p.times acts; freed = freed_after p.freed acts }
 
 -- ---- the acts of a switch
 grant_parts : (w : WorldView) (s : ℕ) (pmac : Pmac) (h : Option ℕ) →
     parts_of (granted w s pmac h) ≡ record (parts_of w) { times = granted_more (λ x. times_granted x w.journal) pmac h }
 grant_parts w s pmac None = refl
-grant_parts w s pmac (Some h) = λ i. record (parts_of w) { times = λ x. one_more w.journal x i }
+grant_parts w s pmac (Some h) = λ i. record (parts_of w) { times = λ x. one_more w.journal x i; freed = λ x. none_more w.journal x i }
   where
+    none_more : (journal : List Entry) (x : Pmac) → times_freed x (journal ++ Granted pmac (host_no h) (switch_no s) pmac.port ∷ []) ≡ times_freed x journal
+    none_more journal x = let sum = freed_append x journal (Granted pmac (host_no h) (switch_no s) pmac.port ∷ []) in omega (arith, sum)
+
     one_more : (journal : List Entry) (x : Pmac) → times_granted x (journal ++ Granted pmac (host_no h) (switch_no s) pmac.port ∷ [])
         ≡ times_granted x journal + (if same_pmac pmac x then 1 else 0)
     one_more journal x = let sum = times_append x journal (Granted pmac (host_no h) (switch_no s) pmac.port ∷ []) in omega (arith, sum)
+
+free_parts : (w : WorldView) (pmac : Pmac) → parts_of (noted w (Freed pmac)) ≡ record (parts_of w) { freed = freed_more (λ x. times_freed x w.journal) pmac }
+free_parts w pmac = λ i. record (parts_of w) { times = λ x. none_more w.journal x i; freed = λ x. one_more w.journal x i }
+  where
+    none_more : (journal : List Entry) (x : Pmac) → times_granted x (journal ++ Freed pmac ∷ []) ≡ times_granted x journal
+    none_more journal x = let sum = times_append x journal (Freed pmac ∷ []) in omega (arith, sum)
+
+    one_more : (journal : List Entry) (x : Pmac) → times_freed x (journal ++ Freed pmac ∷ []) ≡ times_freed x journal + (if same_pmac pmac x then 1 else 0)
+    one_more journal x = let sum = freed_append x journal (Freed pmac ∷ []) in omega (arith, sum)
 
 again_parts : (w : WorldView) (s id : ℕ) (again : Bool) → parts_of (crossed_again w s id again) ≡ parts_of w
 again_parts w s id again = quiet_parts w (if again then Crossed id (switch_no s) ∷ [] else []) (quiet_if again (Crossed id (switch_no s) ∷ []) [] ((λ x. refl), tt) tt)
@@ -161,6 +183,9 @@ acts_parts s d (act.Grant pmac amac ∷ acts) quiet =
       parts = rest.parts ∙ ap (λ (p : Parts). with_acts s p acts) (grant_parts d.world s pmac (host_of d.world.plan amac));
       late = rest.late;
     }
+acts_parts s d (act.Free pmac ∷ acts) quiet =
+    let rest = acts_parts s (act_done s d (act.Free pmac)) acts quiet in
+    record { parts = rest.parts ∙ ap (λ (p : Parts). with_acts s p acts) (free_parts d.world pmac); late = rest.late }
 acts_parts s d (act.Make frame ∷ acts) quiet =
     done_first s d (act.Make frame) acts
     (one_quiet (begun_by (with_late d) (Made (d.world.begun + 1) (switch_no s) frame)) (Crossed (d.world.begun + 1) (switch_no s)) (λ x. refl)
@@ -179,10 +204,15 @@ acts_parts s d (act.Drop cause ∷ acts) quiet =
     done_first s d (act.Drop cause) acts (end_parts s d (λ id. Dropped id cause) d.speech (λ id x. refl)) (λ p. refl)
     (acts_parts s (act_done s d (act.Drop cause)) acts (end_late s d (λ id. Dropped id cause) d.speech quiet))
 
--- a step of a switch changes its view, tells the manager what its acts tell, and grants what they grant
+-- a step of a switch changes its view, tells the manager what its acts tell, and grants and frees what they do
 pub stepped_parts : (w : WorldView) (s : ℕ) (before after : SwitchView) (speech : SpokenFrame) (acts : List Act) →
     parts_of (switch_stepped w s before after speech acts)
-    ≡ record (parts_of w) { switches = set w.switches s after; up = all_put s w.to_manager (told_by acts); times = times_after w.plan (λ x. times_granted x w.journal) acts }
+    ≡ record (parts_of w) {
+      switches = set w.switches s after;
+      up = all_put s w.to_manager (told_by acts);
+      times = times_after w.plan (λ x. times_granted x w.journal) acts;
+      freed = freed_after (λ x. times_freed x w.journal) acts;
+    }
 stepped_parts w s before after speech acts =
     let d = begins (record w { switches = set w.switches s after }) speech in
     let done = acts_parts s d acts tt in
@@ -204,4 +234,5 @@ host_parts h w (Send frame ∷ acts) =
     ∙ (λ i. record (parts_of w) {
       from_hosts = all_put h w.from_hosts (items_sent w.begun (Send frame ∷ acts));
       times = λ x. quiet_times w.journal (Sent (w.begun + 1) (host_no h) frame ∷ []) ((λ x. refl), tt) x i;
+      freed = λ x. quiet_freed w.journal (Sent (w.begun + 1) (host_no h) frame ∷ []) ((λ x. refl), tt) x i;
     })

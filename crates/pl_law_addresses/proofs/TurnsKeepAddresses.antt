@@ -1,10 +1,11 @@
 -- The turns of switches, hosts and the manager keep addresses in order.
-use Rattle.std.proofs.Common.{◌≡◌, if◌then◌else◌, ◌≢◌, ◌<◌, ◌≤◌, ◌+◌, ℕ, zero, suc, set, List, [], ◌∷◌, ◌++◌, length, Option, Some, None, slice_get, refl, sym, ap, subst, ◌∙◌, inl, inr, arith}
+use Rattle.std.proofs.Common.{◌≡◌, if◌then◌else◌, ◌≢◌, ◌<◌, ◌≤◌, ◌+◌, ℕ, zero, suc, Bool, true, false, set, List, [], ◌∷◌, ◌++◌, length, Option, Some, None, slice_get, refl, sym, ap, subst, ◌∙◌, inl, inr, arith}
 use Rattle.std.specs.List.{AllByRecursion}
 use Rattle.std.proofs.lemmas.Bool.{cases_eq, cases_lt}
 use Rattle.std.proofs.lemmas.List.{get_or_past}
-use Rattle.std.proofs.lemmas.Option.{none-some, same_Some, slice_get_within}
+use Rattle.std.proofs.lemmas.Option.{same_Some, slice_get_within}
 use Rattle.pl_lemmas.proofs.Exports.{all_found}
+use Rattle.pl_frame.specs.declared.address.Mac.{Mac}
 use Rattle.pl_pmac.specs.declared.pmac.Pmac.{Pmac}
 use Rattle.pl_layouts.specs.Equality.{same_pmac}
 use Rattle.pl_world.specs.Changes.{host_of}
@@ -33,18 +34,18 @@ use Rattle.pl_world.specs.Worlds.{WorldView}
 use Rattle.pl_law_addresses.specs.OwnAddresses.{own_ip}
 use Rattle.pl_law_addresses.specs.OwnFrames.{AreOwnHosts}
 use Rattle.pl_law_addresses.specs.Registries.{registry_of}
-use Rattle.pl_law_addresses.specs.EdgeAddresses.{IsGrantedTo, KeepsGrantees, is_settled}
-use Rattle.pl_law_addresses.specs.GrantedOnce.{HasGranted, IsOnce, times_granted}
-use Rattle.pl_law_addresses.specs.Addressed.{AreAddressed, AreApart, StayGranted}
-use Rattle.pl_law_addresses.proofs.Learning.{heard_addressed}
+use Rattle.pl_law_addresses.specs.EdgeAddresses.{IsHeldFor, is_live, is_settled}
+use Rattle.pl_law_addresses.specs.GrantedOnce.{HasGranted, IsOnce, times_freed, times_granted}
+use Rattle.pl_law_addresses.specs.Addressed.{AreAddressed, AreApart, IsLiveNowhere, StayGranted}
+use Rattle.pl_law_addresses.proofs.Hearing.{heard_addressed}
 use Rattle.pl_law_addresses.proofs.OwnHosts.{host_step_own}
 use Rattle.pl_law_addresses.proofs.Placing.{IsUnknown}
-use Rattle.pl_law_addresses.proofs.RowsLeaveAddresses.{Good, Grows, IsGrantedThen, grant_acts, some_grant, told_by}
+use Rattle.pl_law_addresses.proofs.RowsLeaveAddresses.{Good, IsGrantedThen, Turns, free_acts, grant_acts, live_held, not_held, some_grant, told_by}
 use Rattle.pl_law_addresses.proofs.SaidByManager.{all_said, said_parts}
 use Rattle.pl_law_addresses.proofs.Stepped.{switch_addressed, unknown_there}
 use Rattle.pl_law_addresses.proofs.SwitchSteps.{Brings}
 use Rattle.pl_law_addresses.proofs.AddressLemmas.{get-set_other, get-set_same}
-use Rattle.pl_law_addresses.proofs.TurnQueues.{Parts, all_put, granted_more, host_parts, items_sent, parts_of, put_here, put_there, stepped_parts, times_after}
+use Rattle.pl_law_addresses.proofs.TurnQueues.{Parts, all_put, freed_after, freed_more, granted_more, host_parts, items_sent, parts_of, put_here, put_there, stepped_parts, times_after}
 
 -- how much more often an address is granted
 more_bounds : (plan : Plan) (x : Pmac) (t : Pmac → ℕ) (acts : List Act) → (t x ≤ times_after plan t acts x) × (times_after plan t acts x ≤ t x + grant_acts x acts)
@@ -57,63 +58,92 @@ more_bounds plan x t (act.Grant y mac ∷ acts) = by (host_of plan mac) (λ o. m
     by (Some h) rest = let two = rest (Some h) in let low = two.0 in let high = two.1 in (omega (arith, low), omega (arith, high))
 more_bounds plan x t (a ∷ acts) = more_bounds plan x t acts
 
--- it was not granted before where a switch grants it now, and is granted then
-once_then : (switches : List SwitchView) (s : ℕ) (v after : SwitchView) (x : Pmac) (before now more : ℕ) → slice_get switches s ≡ Some v → AreApart (set switches s after) →
-    KeepsGrantees (λ y. granted v y) (λ y. granted after y) → before ≤ now → now ≤ before + more → more ≤ 1 → (1 ≤ more → IsGrantedThen v after x) →
-    IsOnce switches before x → IsOnce (set switches s after) now x
-once_then switches s v after x before now more found apart stays low high few grants old = elim (cases_lt 0 more) [
-  | inr none ↦
-      let same : now ≡ before = omega (arith, low, high, none) in
-      elim old [ inl never_yet ↦ inl (same ∙ never_yet) | inr one ↦ inr (same ∙ one.0, still one.1) ]
-  | inl some ↦
-      let it = grants (omega (arith, some)) in
-      elim old [
-        | inr one ↦ absurd (never it one.1)
-        | inl never_yet ↦ elim (cases_lt 0 now) [
-          | inr nothing ↦ inl (omega (arith, nothing))
-          | inl once ↦
-              inr (
-                omega (arith, once, high, few, never_yet),
-                record { switch = s; view = after; mac = it.mac; found = get-set_same switches s after (slice_get_within switches s v found); granted_to = it.granted_to },
-              )
+-- and freed
+freed_is : (x : Pmac) (t : Pmac → ℕ) (acts : List Act) → freed_after t acts x ≡ t x + free_acts x acts
+freed_is x t [] = omega arith
+freed_is x t (act.Free y ∷ acts) = let rest = freed_is x (freed_more t y) acts in omega (arith, rest)
+freed_is x t (a ∷ acts) = freed_is x t acts
+
+-- of one switch that steps: an address is granted where it was nobody's, and freed where it was somebody's
+module _ (switches : List SwitchView) (s : ℕ) (v after : SwitchView) (x : Pmac) (found : slice_get switches s ≡ Some v) (apart : AreApart (set switches s after)) where
+  there_now : slice_get (set switches s after) s ≡ Some after
+  there_now = get-set_same switches s after (slice_get_within switches s v found)
+
+  -- nobody has an address that is granted now
+  never : IsGrantedThen v after x → (t : ℕ) (u : SwitchView) → slice_get switches t ≡ Some u → (mac : Mac) → IsHeldFor (λ y. granted u y) x mac → ⊥
+  never it t u is mac h = elim (cases_eq t s) [
+    | inl same ↦
+        let view : u ≡ v = same_Some u v (sym is ∙ ap (slice_get switches) same ∙ found) in
+        not_held v x mac it.none (subst (λ (w : SwitchView). IsHeldFor (λ y. granted w y) x mac) view h)
+    | inr other ↦
+        other (apart t s u after x (get-set_other switches s t after other ∙ is) there_now (granted_parts u x h.grant h.found).0
+        (granted_parts after x it.granted_to.grant it.granted_to.found).0)
+  ]
+
+  still_has : (stays : (mac : Mac) → IsHeldFor (λ y. granted v y) x mac → IsHeldFor (λ y. granted after y) x mac) → HasGranted switches x → HasGranted (set switches s after) x
+  still_has stays h = elim (cases_eq h.switch s) [
+    | inr other ↦ record { switch = h.switch; view = h.view; found = get-set_other switches s h.switch after other ∙ h.found; held = h.held }
+    | inl same ↦
+        let view : h.view ≡ v = same_Some h.view v (sym h.found ∙ ap (slice_get switches) same ∙ found) in
+        record {
+          switch = s;
+          view = after;
+          found = there_now;
+          held = (h.held.0, stays h.held.0 (subst (λ (u : SwitchView). IsHeldFor (λ y. granted u y) x h.held.0) view h.held.1));
+        }
+  ]
+
+  once_then : (before now given gone gone_now freeing : ℕ) → before ≤ now → now ≤ before + given → given + freeing ≤ 1 → gone_now ≡ gone + freeing →
+      (freeing ≡ 0 → (mac : Mac) → IsHeldFor (λ y. granted v y) x mac → IsHeldFor (λ y. granted after y) x mac) → (1 ≤ given → IsGrantedThen v after x) →
+      IsOnce switches before gone x → IsOnce (set switches s after) now gone_now x
+  once_then before now given gone gone_now freeing low high few sum stays grants old = elim (cases_lt 0 given) [
+    | inl some ↦
+        let it = grants (omega (arith, some)) in
+        elim old [
+          | inr one ↦ absurd (never it one.1.switch one.1.view one.1.found one.1.held.0 one.1.held.1)
+          | inl no_more ↦ elim (cases_lt gone_now now) [
+            | inr at_most ↦ inl (omega (arith, at_most))
+            | inl above ↦
+                inr (
+                  omega (arith, above, high, few, no_more, sum, some),
+                  record { switch = s; view = after; found = there_now; held = (it.mac, it.granted_to) },
+                )
+          ]
         ]
-      ]
-]
-  where
-    is_v : (h : HasGranted switches x) → h.switch ≡ s → h.view ≡ v
-    is_v h same = same_Some h.view v (sym h.found ∙ ap (slice_get switches) same ∙ found)
-
-    still : HasGranted switches x → HasGranted (set switches s after) x
-    still h = elim (cases_eq h.switch s) [
-      | inr other ↦ record { switch = h.switch; view = h.view; mac = h.mac; found = get-set_other switches s h.switch after other ∙ h.found; granted_to = h.granted_to }
-      | inl same ↦ record {
-        switch = s;
-        view = after;
-        mac = h.mac;
-        found = get-set_same switches s after (slice_get_within switches s v found);
-        granted_to = stays x h.mac (subst (λ (u : SwitchView). IsGrantedTo (λ y. granted u y) x h.mac) (is_v h same) h.granted_to);
-      }
+    | inr none ↦ elim old [
+      | inl no_more ↦ inl (omega (arith, low, high, none, no_more, sum))
+      | inr one ↦
+          let more = one.0 in
+          elim (cases_lt 0 freeing) [
+            | inl frees ↦ inl (omega (arith, high, none, more, sum, frees))
+            | inr keeps ↦ inr (omega (arith, low, high, none, more, sum, keeps), still_has (stays (omega (arith, keeps))) one.1)
+          ]
     ]
+  ]
 
-    never : IsGrantedThen v after x → HasGranted switches x → ⊥
-    never it h = elim (cases_eq h.switch s) [
-      | inl same ↦
-          let was = subst (λ (u : SwitchView). IsGrantedTo (λ y. granted u y) x h.mac) (is_v h same) h.granted_to in
-          none-some was.grant (sym it.none ∙ was.found)
-      | inr other ↦
-          other (apart h.switch s h.view after x (get-set_other switches s h.switch after other ∙ h.found)
-          (get-set_same switches s after (slice_get_within switches s v found)) (granted_parts h.view x h.granted_to.grant h.granted_to.found).0
-          (granted_parts after x it.granted_to.grant it.granted_to.found).0)
-    ]
+-- ---- an earlier moment: what switches held then, and how often each address was granted and freed
+pub record Earlier : Type 0 where
+  pub switches : List SwitchView
+  pub times : Pmac → ℕ
+  pub freed : Pmac → ℕ
+
+abbrev pub no_moment : Earlier
+no_moment = record { switches = []; times = λ x. 0; freed = λ x. 0 }
+
+abbrev pub moment_of : WorldView → Earlier
+moment_of w = record { switches = w.switches; times = λ x. times_granted x w.journal; freed = λ x. times_freed x w.journal }
 
 -- addresses are in order, and hosts send frames of their own
-pub record InOrder (before : List SwitchView) (p : Parts) : Type 0 where
+pub record InOrder (before : Earlier) (p : Parts) : Type 0 where
   pub addressed : AreAddressed p.plan p.manager p.switches p.up p.down
   pub own : AreOwnHosts p.plan p.hosts p.from_hosts
-  -- and what was granted before is still granted
-  pub since : StayGranted before p.switches
-  -- no address was granted twice
-  pub once : (x : Pmac) → IsOnce p.switches (p.times x) x
+  -- what was somebody's at that moment is so still, unless it was freed since
+  pub since : StayGranted before.switches p.switches (λ x. p.freed x ≡ before.freed x)
+  pub rises : (x : Pmac) → before.freed x ≤ p.freed x
+  -- what was granted since was nobody's then, unless it was freed since
+  pub given : (x : Pmac) → before.times x < p.times x → p.freed x ≡ before.freed x → IsLiveNowhere before.switches x
+  -- no address was granted again before it was freed
+  pub once : (x : Pmac) → IsOnce p.switches (p.times x) (p.freed x) x
 
 -- ---- lists
 pub exists_at : {X : Type 0} (xs : List X) (i : ℕ) → i < length xs → (x : X) × (slice_get xs i ≡ Some x)
@@ -130,7 +160,19 @@ filled_within queues i x xs is = elim (cases_lt i (length queues)) [
       absurd (omega (arith, none, some))
 ]
 
-module _ (first : List SwitchView) where
+module _ (first : Earlier) where
+  -- what nobody has now was nobody's at the earlier moment, where it was not freed since
+  free_before : {p : Parts} → InOrder first p → (x : Pmac) (t : ℕ) (v : SwitchView) → slice_get first.switches t ≡ Some v → p.freed x ≡ first.freed x →
+      ((n : ℕ) (u : SwitchView) → slice_get p.switches n ≡ Some u → (mac : Mac) → IsHeldFor (λ y. granted u y) x mac → ⊥) → is_live v x ≡ false
+  free_before o x t v is kept nobody = by (is_live v x) refl
+    where
+      by : (b : Bool) → is_live v x ≡ b → is_live v x ≡ false
+      by false none = none
+      by true live =
+          let h = live_held v x live in
+          let still = o.since t v is in
+          absurd (nobody t still.view still.found h.0 (still.keeps x h.0 kept h.1))
+
   -- ---- a switch
   pub switch_turn : (w : WorldView) (s : ℕ) (input : SwitchInput) (speech : SpokenFrame) (new : WorldView) (down : List (List ToSwitch)) →
       InOrder first (record (parts_of w) { down = down }) → ((t : ℕ) → t ≢ s → items_at w.from_manager t ≡ items_at down t) → length w.to_manager ≡ length w.switches →
@@ -143,7 +185,7 @@ module _ (first : List SwitchView) where
       let b = brings turn.before turn.found turn.ruled.choose in
       let after : turn.after ≡ step.view = turn.ruled.steps.view in
       let acts : turn.acts ≡ step.acts = turn.ruled.steps.done in
-      let parts : parts_of new ≡ record (parts_of w) { switches = set w.switches s turn.after; up = all_put s w.to_manager (told_by turn.acts); times = times_after w.plan (λ x. times_granted x w.journal) turn.acts } =
+      let parts : parts_of new ≡ record (parts_of w) { switches = set w.switches s turn.after; up = all_put s w.to_manager (told_by turn.acts); times = times_after w.plan (λ x. times_granted x w.journal) turn.acts; freed = freed_after (λ x. times_freed x w.journal) turn.acts } =
       ap parts_of turn.changed ∙ stepped_parts w s turn.before turn.after speech turn.acts in
       let switches : AreApart (set w.switches s turn.after) = subst (λ (p : Parts). AreApart p.switches) parts apart in
       let within : s < length w.to_manager = subst (λ n. s < n) (sym many) (slice_get_within w.switches s turn.before turn.found) in
@@ -151,7 +193,9 @@ module _ (first : List SwitchView) where
       subst (λ (v : SwitchView). IsUnknown (registry_of w.manager.learnt) turn.before v.place) after
       (unknown_there w.plan w.manager w.switches w.to_manager down o.addressed s turn.before turn.after turn.found switches) in
       let ready : Good (λ mac. own_ip w.plan mac) (registry_of w.manager.learnt) (slice_get w.plan.ids s) (items_at down s) turn.before (items_at w.to_manager s) = record { edge = o.addressed.edges s turn.before turn.found; address_table = o.addressed.address_tables s turn.before turn.found } in
-      let grown : Grows turn.before step = b.grows (items_at w.to_manager s) unknown ready in
+      let turned : Turns turn.before step = b.turns (items_at w.to_manager s) unknown ready in
+      let many_freed : (x : Pmac) → freed_after (λ y. times_freed y w.journal) turn.acts x ≡ times_freed x w.journal + free_acts x step.acts =
+      λ x. freed_is x (λ y. times_freed y w.journal) turn.acts ∙ ap (λ xs. times_freed x w.journal + free_acts x xs) acts in
       subst (λ (p : Parts). InOrder first p) (sym parts) (record {
         addressed = switch_addressed w.plan w.manager w.switches w.to_manager down o.addressed s turn.before turn.after turn.found switches
             (all_put s w.to_manager (told_by turn.acts)) w.from_manager (items_at w.to_manager s ++ told_by turn.acts) (items_at w.from_manager s)
@@ -167,22 +211,49 @@ module _ (first : List SwitchView) where
         once = λ x.
             let bounds = more_bounds w.plan x (λ y. times_granted y w.journal) turn.acts in
             let count : grant_acts x turn.acts ≡ grant_acts x step.acts = ap (λ xs. grant_acts x xs) acts in
-            let few = grown.once x in
-            once_then w.switches s turn.before turn.after x (times_granted x w.journal) (times_after w.plan (λ y. times_granted y w.journal) turn.acts x) (grant_acts x turn.acts)
-            turn.found switches
-            (λ y mac h. subst (λ (u : SwitchView). IsGrantedTo (λ z. granted u z) y mac) (sym after) (grown.stays y mac h)) bounds.0 bounds.1 (omega (arith, count, few))
-            (λ some. subst (λ (u : SwitchView). IsGrantedThen turn.before u x) (sym after) (some_grant turn.before step.view x step.acts grown.fresh (omega (arith, count, some))))
+            let few = turned.once x in
+            let low = bounds.0 in
+            let high = bounds.1 in
+            once_then w.switches s turn.before turn.after x turn.found switches (times_granted x w.journal) (times_after w.plan (λ y. times_granted y w.journal) turn.acts x)
+            (grant_acts x step.acts) (times_freed x w.journal) (freed_after (λ y. times_freed y w.journal) turn.acts x) (free_acts x step.acts)
+            low (omega (arith, high, count)) few (many_freed x)
+            (λ none mac h. subst (λ (u : SwitchView). IsHeldFor (λ z. granted u z) x mac) (sym after) (turned.stays x mac none h))
+            (λ some. subst (λ (u : SwitchView). IsGrantedThen turn.before u x) (sym after) (some_grant turn.before step.view x step.acts turned.says some))
             (o.once x);
+        rises = λ x. let before = o.rises x in let sum = many_freed x in omega (arith, before, sum);
+        given = λ x more kept.
+            let before = o.rises x in
+            let sum = many_freed x in
+            let none : free_acts x step.acts ≡ 0 = omega (arith, before, sum, kept) in
+            let kept_before : times_freed x w.journal ≡ first.freed x = omega (arith, before, sum, kept) in
+            elim (cases_lt (first.times x) (times_granted x w.journal)) [
+              | inl already ↦ o.given x already kept_before
+              | inr not_yet ↦
+                  let bounds = more_bounds w.plan x (λ y. times_granted y w.journal) turn.acts in
+                  let high = bounds.1 in
+                  let count : grant_acts x turn.acts ≡ grant_acts x step.acts = ap (λ xs. grant_acts x xs) acts in
+                  let some : 1 ≤ grant_acts x step.acts = omega (arith, high, more, not_yet, count) in
+                  let it = subst (λ (u : SwitchView). IsGrantedThen turn.before u x) (sym after) (some_grant turn.before step.view x step.acts turned.says some) in
+                  λ t v is. free_before o x t v is kept_before (never w.switches s turn.before turn.after x turn.found switches it)
+            ];
         since = λ t v is. let still = o.since t v is in elim (cases_eq t s) [
-          | inr other ↦ record { view = still.view; found = get-set_other w.switches s t turn.after other ∙ still.found; keeps = still.keeps; place = still.place }
+          | inr other ↦ record {
+            view = still.view;
+            found = get-set_other w.switches s t turn.after other ∙ still.found;
+            keeps = λ x mac kept h. still.keeps x mac (let before = o.rises x in let sum = many_freed x in omega (arith, before, sum, kept)) h;
+            place = still.place;
+          }
           | inl same ↦
               let view : still.view ≡ turn.before = same_Some still.view turn.before (sym still.found ∙ ap (slice_get w.switches) same ∙ turn.found) in
               record {
                 view = turn.after;
                 found = ap (slice_get (set w.switches s turn.after)) same ∙ get-set_same w.switches s turn.after (slice_get_within w.switches s turn.before turn.found);
-                keeps = λ x mac h.
-                    subst (λ (u : SwitchView). IsGrantedTo (λ y. granted u y) x mac) (sym after)
-                    (grown.stays x mac (subst (λ (u : SwitchView). IsGrantedTo (λ y. granted u y) x mac) view (still.keeps x mac h)));
+                keeps = λ x mac kept h.
+                    let before = o.rises x in
+                    let sum = many_freed x in
+                    subst (λ (u : SwitchView). IsHeldFor (λ y. granted u y) x mac) (sym after)
+                    (turned.stays x mac (omega (arith, before, sum, kept))
+                    (subst (λ (u : SwitchView). IsHeldFor (λ y. granted u y) x mac) view (still.keeps x mac (omega (arith, before, sum, kept)) h)));
                 place = λ settled.
                     let p : turn.before.place ≡ v.place = ap (λ (u : SwitchView). u.place) (sym view) ∙ still.place settled in
                     ap (λ (u : SwitchView). u.place) after ∙ b.place (items_at w.to_manager s) ready (ap (λ (q : Place). is_settled q) p ∙ settled) ∙ p;
@@ -202,6 +273,8 @@ module _ (first : List SwitchView) where
         own = host_step_own rule sends owns w.plan w.hosts w.from_hosts h w.begun turn.before turn.after input turn.acts answer turn.found
             (all_found HoldsData w.hosts h turn.before holding turn.found) within turn.ruled o.own;
         since = o.since;
+        rises = o.rises;
+        given = o.given;
         once = o.once;
       })
 
@@ -224,7 +297,7 @@ module _ (first : List SwitchView) where
         let goal : AreAddressed w.plan turn.after w.switches (set w.to_manager s items) (all_said w.plan w.from_manager turn.acts) =
         subst (λ (m : ManagerView). AreAddressed w.plan m w.switches (set w.to_manager s items) (all_said w.plan w.from_manager turn.acts)) (sym view)
         (subst (λ (xs : List ManagerAct). AreAddressed w.plan (manager_hears (known w.plan.k tale.words) turn.id told).view w.switches (set w.to_manager s items) (all_said w.plan w.from_manager xs)) (sym acts) heard) in
-        subst (λ (p : Parts). InOrder first p) (sym parts) (record { addressed = goal; own = o.own; since = o.since; once = o.once })
+        subst (λ (p : Parts). InOrder first p) (sym parts) (record { addressed = goal; own = o.own; since = o.since; rises = o.rises; given = o.given; once = o.once })
 
     pub delivers_to_manager : (s : ℕ) (items : List ToManager) (new : WorldView) → items_at w.to_manager s ≡ items → DeliversToManager manager_rule w s items new → InOrder first (parts_of new)
     delivers_to_manager s [] new is turn = absurd turn

@@ -25,7 +25,7 @@ use Rattle.pl_world.specs.Runs.{Moment, WorldRun}
 use Rattle.pl_world.specs.Worlds.{WorldView}
 use Rattle.pl_law_addresses.specs.OwnAddresses.{own_ip}
 use Rattle.pl_law_addresses.specs.Registries.{IsGoodRegistry, registry_of}
-use Rattle.pl_law_addresses.specs.EdgeAddresses.{IsGrantedTo, IsGoodAddressTable, IsGoodEdge, KeepsGrantees, edge_of, is_settled}
+use Rattle.pl_law_addresses.specs.EdgeAddresses.{IsGoodAddressTable, IsGoodEdge, IsHeldFor, edge_of, is_live, is_settled}
 
 -- some switch of the world has the place of this address
 pub record HasHome (switches : List SwitchView) (x : Pmac) : Type 0 where
@@ -52,22 +52,26 @@ pub record AreAddressed (plan : Plan) (manager : ManagerView) (switches : List S
 abbrev pub IsAddressed : WorldView → Type 0
 IsAddressed w = AreAddressed w.plan w.manager w.switches w.to_manager w.from_manager
 
--- some switch has granted it to this host
+-- some switch has granted it to this host, and it is not free
 pub record IsGrantedBySome (switches : List SwitchView) (x : Pmac) (mac : Mac) : Type 0 where
   pub switch : ℕ
   pub view : SwitchView
   pub found : slice_get switches switch ≡ Some view
-  pub granted_to : IsGrantedTo (λ y. granted view y) x mac
+  pub granted_to : IsHeldFor (λ y. granted view y) x mac
 
--- of two worlds, one later: what was granted by a switch to a host is still granted to it, and a placed edge switch has its place still
-pub record IsStill (switches : List SwitchView) (s : ℕ) (v : SwitchView) : Type 0 where
+-- it is nobody's at any switch
+abbrev pub IsLiveNowhere : List SwitchView → Pmac → Type 0
+IsLiveNowhere switches x = (s : ℕ) (v : SwitchView) → slice_get switches s ≡ Some v → is_live v x ≡ false
+
+-- Of two moments, one later: what was a host's at a switch is so still, unless it was freed since, and a placed edge switch has its place still.
+pub record IsStill (switches : List SwitchView) (is_kept : Pmac → Type 0) (s : ℕ) (v : SwitchView) : Type 0 where
   pub view : SwitchView
   pub found : slice_get switches s ≡ Some view
-  pub keeps : KeepsGrantees (λ x. granted v x) (λ x. granted view x)
+  pub keeps : (x : Pmac) (mac : Mac) → is_kept x → IsHeldFor (λ y. granted v y) x mac → IsHeldFor (λ y. granted view y) x mac
   pub place : is_settled v.place ≡ true → view.place ≡ v.place
 
-abbrev pub StayGranted : List SwitchView → List SwitchView → Type 0
-StayGranted before after = (s : ℕ) (v : SwitchView) → slice_get before s ≡ Some v → IsStill after s v
+abbrev pub StayGranted : List SwitchView → List SwitchView → (Pmac → Type 0) → Type 0
+StayGranted before after is_kept = (s : ℕ) (v : SwitchView) → slice_get before s ≡ Some v → IsStill after is_kept s v
 
 -- What other parts of the network have to give.
 

@@ -18,15 +18,16 @@ use Rattle.pl_node.specs.declared.switch_records.Source.{Source}
 use Rattle.pl_node.specs.declared.trap.Trap.{Trap}
 use Rattle.pl_node.specs.ManagerViews.{Registration}
 use Rattle.pl_node.specs.SwitchViews.{SwitchView}
-use Rattle.pl_switch_rule.specs.Granting.{granted, grants_at, is_granted, is_local, remembered_at}
+use Rattle.pl_switch_rule.specs.Granting.{freed_at, granted, grants_at, is_local, remembered_at}
 use Rattle.pl_law_phases.specs.Phases.{Phase}
-use Rattle.pl_law_phases.specs.Tenures.{Tenure, orders_of, words_of}
+use Rattle.pl_law_phases.specs.Tenures.{Tenure, is_held, orders_of, words_of}
+use Rattle.pl_law_addresses.specs.FreeVmids.{AreFreeVmids}
 use Rattle.pl_law_addresses.specs.OwnAddresses.{IsOwnIp}
 use Rattle.pl_law_addresses.specs.Registries.{Registry}
 
--- an address is live at an edge switch once it was granted there: none is freed
+-- an address is live at an edge switch from its grant there until it is freed
 abbrev pub is_live : SwitchView → Pmac → Bool
-is_live v x = is_granted v x
+is_live v x = is_held (option_map (λ g. g.held) (granted v x))
 
 -- an edge switch that is placed
 abbrev pub is_settled : Place → Bool
@@ -74,23 +75,37 @@ pub record IsGrantedTo (granted : Pmac → Option Grant) (x : Pmac) (mac : Mac) 
   pub found : granted x ≡ Some grant
   pub to : grant.amac ≡ mac
 
--- what was granted to a host stays so
-abbrev pub KeepsGrantees : (Pmac → Option Grant) → (Pmac → Option Grant) → Type 0
-KeepsGrantees f g = (x : Pmac) (mac : Mac) → IsGrantedTo f x mac → IsGrantedTo g x mac
+-- and is not free: it is this host's
+pub record IsHeldFor (granted : Pmac → Option Grant) (x : Pmac) (mac : Mac) : Type 0 where
+  pub grant : Grant
+  pub found : granted x ≡ Some grant
+  pub held : is_held (Some grant.held) ≡ true
+  pub to : grant.amac ≡ mac
 
--- what is told of an address says to whom it was granted, and that host's own IPv4 address
+-- or some host's
+abbrev pub IsHeld : (Pmac → Option Grant) → Pmac → Type 0
+IsHeld granted x = (mac : Mac) × IsHeldFor granted x mac
+
+-- what is a host's stays so
+abbrev pub KeepsHolders : (Pmac → Option Grant) → (Pmac → Option Grant) → Type 0
+KeepsHolders f g = (x : Pmac) (mac : Mac) → IsHeldFor f x mac → IsHeldFor g x mac
+
+-- what is told of an address says whose it is, and that host's own IPv4 address; one that has aged is somebody's still
 abbrev pub IsGoodWord : (Mac → Option Ip4) → (Pmac → Option Grant) → ToManager → Type 0
-IsGoodWord own granted (tell.Learned x amac ip) = IsGrantedTo granted x amac × IsOwnIp own amac ip
+IsGoodWord own granted (tell.Learned x amac ip) = IsHeldFor granted x amac × IsOwnIp own amac ip
+IsGoodWord own granted (tell.Aged x number) = IsHeld granted x
 IsGoodWord own granted says = Unit {0}
 
--- a newer address is told of one that was granted here, with that host's own IPv4 address
+-- a newer address is told of one that is somebody's here, with that host's own IPv4 address
 pub record IsGoodRecall (own : Mac → Option Ip4) (granted : Pmac → Option Grant) (old : Pmac) (ip : Option Ip4) : Type 0 where
   pub mac : Mac
-  pub granted_to : IsGrantedTo granted old mac
+  pub granted_to : IsHeldFor granted old mac
   pub own_ip : IsOwnIp own mac ip
 
+-- one that is released is somebody's until that is heard
 abbrev pub IsGoodOrder : (Mac → Option Ip4) → (Pmac → Option Grant) → ToSwitch → Type 0
 IsGoodOrder own granted (say.Invalidate old new number ip) = IsGoodRecall own granted old ip
+IsGoodOrder own granted (say.Release x) = IsHeld granted x
 IsGoodOrder own granted says = Unit {0}
 
 -- What was granted under an address: the IPv4 addresses that are kept with it are its host's own, and in use the manager was told that of the
@@ -100,10 +115,10 @@ pub record IsGoodGrant (own : Mac → Option Ip4) (r : Registry) (up : List ToMa
   pub told_ip : is_in_use g.held ≡ true → (ip : Ip4) → g.ip ≡ Some ip → (r.ip_at x ≡ Some ip) ⊎ (list_any (tells_ip x) up ≡ true)
   pub trap_ip : (trap : Trap) → standing_trap g.held ≡ Some trap → IsOwnIp own g.amac trap.ip
 
--- a registered address of an edge switch was told by it, and is granted there to the host that it is registered for
+-- a registered address of an edge switch was told by it, and is there that of the host that it is registered for
 pub record IsRegisteredHere (e : Edge) (x : Pmac) (reg : Registration) : Type 0 where
   pub teller : e.id ≡ Some reg.switch
-  pub granted_to : IsGrantedTo e.granted x reg.amac
+  pub granted_to : IsHeldFor e.granted x reg.amac
 
 pub record IsGoodEdge (own : Mac → Option Ip4) (r : Registry) (e : Edge) : Type 0 where
   -- each grant carries the pod and the position of this edge switch
@@ -115,9 +130,11 @@ pub record IsGoodEdge (own : Mac → Option Ip4) (r : Registry) (e : Edge) : Typ
   pub orders : AllByRecursion (IsGoodOrder own e.granted) e.down
   pub here : (x : Pmac) (reg : Registration) → r.at x ≡ Some reg → e.at x ≡ true → IsRegisteredHere e x reg
 
--- The lists of a switch: one of grants for each port, empty as long as the switch is no placed edge switch; and of the sources that it
--- remembers each has its own IPv4 address.
+-- The lists of a switch: one of grants for each port, empty as long as the switch is no placed edge switch, and one of the vmids of its free
+-- addresses; and of the sources that it remembers each has its own IPv4 address.
 pub record IsGoodAddressTable (own : Mac → Option Ip4) (v : SwitchView) : Type 0 where
   pub many : length v.grants ≡ v.k
+  pub many_freed : length v.freed ≡ v.k
   pub empty : is_settled v.place ≡ false → (port : ℕ) → grants_at v port ≡ []
+  pub free : (port : ℕ) → AreFreeVmids (grants_at v port) (freed_at v port)
   pub sources : (port : ℕ) (source : Source) → remembered_at v port ≡ Some source → IsOwnIp own source.amac source.ip

@@ -1,6 +1,7 @@
 pub mod OwnAddresses
 pub mod OwnFrames
 pub mod Registries
+pub mod FreeVmids
 pub mod EdgeAddresses
 pub mod Addressed
 pub mod Standing

@@ -4,8 +4,7 @@ use Rattle.std.specs.Option.{option_map}
 use Rattle.pl_frame.specs.declared.address.Ip4.{Ip4}
 use Rattle.pl_frame.specs.declared.address.Mac.{Mac}
 use Rattle.pl_pmac.specs.declared.pmac.Pmac.{Pmac}
-use Rattle.pl_node.specs.ManagerViews.{Learnt, Recall, Registration, ip_of, newest, registration}
-use Rattle.pl_law_phases.specs.Tenures.{has_aged, recall_of}
+use Rattle.pl_node.specs.ManagerViews.{Learnt, Recall, Registration, has_aged, ip_of, newest, recall_of, registration}
 
 -- what is registered of a pseudo address, where it leads and whether it has aged since, the newest one of an actual address, the IPv4 address
 -- told with a pseudo address, and how many were registered

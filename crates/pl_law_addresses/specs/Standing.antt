@@ -1,5 +1,5 @@
 -- Traps that stand, and addresses that are registered.
-use Rattle.std.specs.Prelude.{◌≡◌, ◌⊎◌, ℕ, Contains, List, Option, Some}
+use Rattle.std.specs.Prelude.{◌≡◌, ◌⊎◌, ℕ, Contains, List, [], Option, Some, None, slice_get}
 use Rattle.pl_frame.specs.declared.address.Ip4.{Ip4}
 use Rattle.pl_frame.specs.declared.address.Mac.{Mac}
 use Rattle.pl_pmac.specs.declared.pmac.Pmac.{Pmac}
@@ -8,9 +8,13 @@ use Rattle.pl_node.specs.declared.messages.ToSwitch.TheVariants.{Invalidate}
 use Rattle.pl_node.specs.AddressUses.{standing_trap}
 use Rattle.pl_node.specs.declared.switch_records.Grant.{Grant}
 use Rattle.pl_node.specs.declared.trap.Trap.{Trap}
+use Rattle.pl_node.specs.ManagerViews.{registration}
 use Rattle.pl_node.specs.SwitchViews.{SwitchView}
+use Rattle.pl_queues.specs.Queues.{items_at}
 use Rattle.pl_switch_rule.specs.Granting.{granted}
-use Rattle.pl_law_addresses.specs.EdgeAddresses.{IsGrantedTo}
+use Rattle.pl_world.specs.Worlds.{WorldView}
+use Rattle.pl_law_phases.specs.Tenures.{orders_of}
+use Rattle.pl_law_addresses.specs.EdgeAddresses.{IsHeldFor}
 use Rattle.pl_law_addresses.specs.Registries.{LeadsToNewer, Registry}
 
 -- an edge switch has set a trap from one address to another, with this number
@@ -34,5 +38,12 @@ IsStanding v down old new number = HasTrap v old new number ⊎ IsOrdered down o
 -- both addresses of it are of one host, and the newer one has a larger number
 pub record LeadsHost (r : Registry) (v : SwitchView) (old new : Pmac) (number : ℕ) : Type 0 where
   pub mac : Mac
-  pub granted_to : IsGrantedTo (λ x. granted v x) old mac
+  pub granted_to : IsHeldFor (λ x. granted v x) old mac
   pub leads : LeadsToNewer r old new number mac
+
+-- The fabric manager does not know an address. No trap stands from it or to it, and no message to an edge switch speaks of it.
+pub record StandsForNothing (w : WorldView) (x : Pmac) : Type 0 where
+  pub unknown : registration w.manager.learnt x ≡ None
+  pub leads_nowhere : (s : ℕ) (v : SwitchView) (new : Pmac) (number : ℕ) → slice_get w.switches s ≡ Some v → IsStanding v (items_at w.from_manager s) x new number → ⊥
+  pub led_from_nowhere : (s : ℕ) (v : SwitchView) (old : Pmac) (number : ℕ) → slice_get w.switches s ≡ Some v → IsStanding v (items_at w.from_manager s) old x number → ⊥
+  pub silent : (s : ℕ) (v : SwitchView) → slice_get w.switches s ≡ Some v → orders_of x (items_at w.from_manager s) ≡ []

@@ -15,14 +15,14 @@ ghost use Rattle.pl_world.specs.declared.attachment.AttachmentPoint.{AttachmentP
 ghost use Rattle.pl_world.specs.Booting.{me_of};
 ghost use Rattle.pl_world.specs.Worlds.{WorldView};
 ghost use Rattle.pl_law_phases.specs.Tenures.{is_held};
-ghost use Rattle.pl_law_addresses.specs.Addressed.{AreApart, IsAddressed, IsGrantedBySome};
+ghost use Rattle.pl_law_addresses.specs.Addressed.{AreApart, IsAddressed, IsGrantedBySome, IsLiveNowhere};
 ghost use Rattle.pl_law_addresses.specs.Registered.{IsRegisteredWithIp, IsServed};
 ghost use Rattle.pl_law_addresses.specs.EdgeAddresses.{is_live, recalls, tells, tells_ip};
 ghost use Rattle.pl_law_addresses.specs.OwnAddresses.{IsOwnIp, own_ip};
 ghost use Rattle.pl_law_addresses.specs.Registries.{HasOwnIp, LeadsToNewer, Registry, number_of, registry_of};
-ghost use Rattle.pl_law_addresses.specs.Standing.{IsStanding, LeadsHost};
+ghost use Rattle.pl_law_addresses.specs.Standing.{IsStanding, LeadsHost, StandsForNothing};
 
-/// No two edge switches grant one address.
+/// No two edge switches have one address for a host.
 pub fn no_two_edge_switches_grant_one_address()
     ensures { (w : WorldView) → AreApart w.switches → (s t : ℕ) (v u : SwitchView) (x : Pmac) →
         slice_get w.switches s ≡ Some v → slice_get w.switches t ≡ Some u → is_live v x ≡ true → is_live u x ≡ true → s ≡ t }
@@ -37,7 +37,7 @@ pub fn a_standing_trap_leads_to_a_newer_address()
     ensures number { (r : Registry) (old new : Pmac) (number : ℕ) (mac : Mac) → LeadsToNewer r old new number mac → number_of r new ≡ Some number }
 {}
 
-/// A registered address is granted, to the host for which it is registered.
+/// A registered address is granted, to the host for which it is registered, and is not free.
 pub fn a_registered_address_is_granted()
     ensures { (w : WorldView) → IsAddressed w → (x : Pmac) (reg : Registration) → registration w.manager.learnt x ≡ Some reg →
         IsGrantedBySome w.switches x reg.amac }
@@ -47,6 +47,12 @@ pub fn a_registered_address_is_granted()
 pub fn a_registered_address_is_held()
     ensures { (w : WorldView) → IsAddressed w → (s : ℕ) (v : SwitchView) (x : Pmac) (reg : Registration) → slice_get w.switches s ≡ Some v →
         is_local v x ≡ true → registration w.manager.learnt x ≡ Some reg → is_held (option_map (λ g. g.held) (granted v x)) ≡ true }
+{}
+
+/// An address that is nobody's at any switch stands for nothing: the manager does not know it, no trap stands from
+/// it or to it, and no message to an edge switch speaks of it.
+pub fn an_address_that_is_nobodys_stands_for_nothing()
+    ensures { (w : WorldView) → IsAddressed w → (x : Pmac) → IsLiveNowhere w.switches x → StandsForNothing w x }
 {}
 
 /// Whatever the manager was told: of the addresses that are registered for a host the newest one has the largest number.

@@ -89,6 +89,7 @@ none_acts = record {
   copied = λ id copy. refl;
   made = λ id s frame. refl;
   granted = λ pmac h s port. refl;
+  freed = λ pmac. refl;
   redirected = λ id old new. refl;
   taken = λ id s. refl;
 }

@@ -48,7 +48,7 @@ use Rattle.pl_law_arrival.proofs.Calm.{place_of_port, turned}
 use Rattle.pl_law_arrival.proofs.SureFramesEnter.{local_is_placed}
 use Rattle.pl_law_arrival.proofs.Landing.{AreOfNoFrame, lands}
 use Rattle.pl_law_arrival.proofs.SureFramesPassedOn.{ComesWell, arrives_over_link, chosen, goes_by}
-use Rattle.pl_law_arrival.proofs.Ready.{Ready, at_edge, edge_within, free_port, home, index_within, live_port, local_there, net, no_trap, view_is}
+use Rattle.pl_law_arrival.proofs.Ready.{Ready, at_edge, edge_within, free_port, home, index_within, live_port, local_there, net, view_is}
 use Rattle.pl_law_arrival.proofs.RowsSendOn.{first_goes_on, last_goes_down, last_goes_up_and_down, top_goes_on}
 use Rattle.pl_law_arrival.proofs.Track.{IsHeaded, IsOnTrack, still_headed}
 use Rattle.pl_law_arrival.proofs.Track.IsHeaded.{FromEdge, FromFirst, FromLast, FromTop}
@@ -169,7 +169,7 @@ module _ (old new : WorldView) (r : Ready old) (alike : Alike (fabric_of old) (f
           let choose = turn.ruled.choose in
           let fine = well low at_s (local_is_placed v x local) in
           let step = arrives_over_link choose v l.into frame to.grant fine (subst (λ y. is_local v y ≡ true) (sym dest) local)
-          (subst (λ y. granted v y ≡ Some to.grant) (sym dest) (ap (λ (w : SwitchView). granted w x) same ∙ to.found)) (no_trap old r g x to) in
+          (subst (λ y. granted v y ≡ Some to.grant) (sym dest) (ap (λ (w : SwitchView). granted w x) same ∙ to.found)) to.used in
           let acts = turn.ruled.steps.done ∙ ap (λ (y : SwitchStep). y.acts) step
           ∙ ap (λ (y : Pmac). Pass y.port (arriving frame None (Some to.grant.amac)) ∷ []) dest in
           moved u is (Comes l.into frame) turn acts

@@ -1,5 +1,5 @@
 -- What is used of a world at a sure moment, and what follows of the hosts that are registered there.
-use Rattle.std.proofs.Common.{◌≡◌, ℕ, ◌<◌, ◌&&◌, not, true, false, length, Some, None, slice_get, sym, ap, ◌∙◌, subst}
+use Rattle.std.proofs.Common.{◌≡◌, ℕ, ◌<◌, ◌&&◌, not, true, false, length, Some, slice_get, sym, ap, ◌∙◌, subst}
 use Rattle.std.proofs.lemmas.Bool.{and_left, and_right}
 use Rattle.std.proofs.lemmas.Option.{get_or_from_slice_get, slice_get-get_or, slice_get_within}
 use Rattle.pl_pmac.specs.declared.pmac.Pmac.{Pmac}
@@ -14,7 +14,6 @@ use Rattle.pl_wiring.specs.Peers.{peer_of}
 use Rattle.pl_wiring.specs.Plan.{Plan}
 use Rattle.pl_wiring.proofs.Exports.{port_index-below}
 use Rattle.pl_journal.specs.Places.{is_host_port}
-use Rattle.pl_node.proofs.Exports.{in_use_has_no_trap}
 use Rattle.pl_node.specs.SwitchViews.{SwitchView}
 use Rattle.pl_switch_rule.specs.Granting.{is_local}
 use Rattle.pl_switch_rule.proofs.Exports.{granted_parts}
@@ -31,7 +30,6 @@ use Rattle.pl_law_addresses.specs.Registered.{IsRegisteredBy}
 use Rattle.pl_law_arrival.specs.Ways.{Alike, LeadsBy, fabric_of}
 use Rattle.pl_law_arrival.proofs.Avoiding.{IsHome, home_of}
 use Rattle.pl_law_arrival.proofs.Calm.{Calm, Net}
-use Rattle.pl_node.specs.AddressUses.{standing_trap}
 
 abbrev pub net : WorldView → Net
 net w = record { plan = w.plan; links = w.links; view = (control_plane w).view; told = w.manager.told }
@@ -78,9 +76,6 @@ module _ (w : WorldView) (r : Ready w) where
 
     pub home : IsHome (net w) x reg.attachment.edge.0
     home = home_of (net w) x reg.attachment.edge.0 edge_within (subst (λ (v : SwitchView). is_local v x ≡ true) (sym edge_is) local_there)
-
-    pub no_trap : standing_trap reg.grant.held ≡ None
-    no_trap = in_use_has_no_trap reg.grant.held reg.used
 
     -- no other edge switch has that place
     pub one_edge : (s : ℕ) (v : SwitchView) → slice_get w.switches s ≡ Some v → is_local v x ≡ true → s ≡ reg.attachment.edge.0

@@ -45,7 +45,7 @@ use Rattle.pl_law_arrival.proofs.SureFramesEnter.{HasInUse, destination_kept, en
 use Rattle.pl_law_arrival.proofs.Landing.{AreOfNoFrame, lands, same_failed}
 use Rattle.pl_law_arrival.proofs.Onward.{host_address, host_mac, not_group}
 use Rattle.pl_law_arrival.proofs.SureFramesPassedOn.{chosen}
-use Rattle.pl_law_arrival.proofs.Ready.{Ready, at_edge, edge_is, edge_within, free_port, home, index_within, live_port, local_there, net, no_trap, one_edge, view_is}
+use Rattle.pl_law_arrival.proofs.Ready.{Ready, at_edge, edge_is, edge_within, free_port, home, index_within, live_port, local_there, net, one_edge, view_is}
 use Rattle.pl_law_arrival.proofs.RowsSendOn.{edge_goes_on}
 use Rattle.pl_law_arrival.proofs.Starting.{starts}
 use Rattle.pl_law_arrival.proofs.LeftByAStep.{Goes, goes_switch}
@@ -148,7 +148,7 @@ module _ (old new : WorldView) (r : Ready old) (ahead : Ready new) (h g : ℕ) (
           let same : here ≡ end = one_edge new ahead g x to here from.edge from.there local in
           let edge : from.edge ≡ to.edge = same_Some from.edge to.edge (sym from.there ∙ ap (slice_get new.switches) same ∙ to.there) in
           let granted_here = subst (λ y. granted from.edge y ≡ Some to.grant) (sym dest) (ap (λ (w : SwitchView). granted w x) edge ∙ to.found) in
-          let step = sends_home turn.ruled.choose from.edge sent one to.grant (subst (λ y. is_local from.edge y ≡ true) (sym dest) local) granted_here (no_trap new ahead g x to) in
+          let step = sends_home turn.ruled.choose from.edge sent one to.grant (subst (λ y. is_local from.edge y ≡ true) (sym dest) local) granted_here to.used in
           let leaving = arriving sent None (Some to.grant.amac) in
           let acts = ap (λ (s : SwitchStep). s.acts) step ∙ ap (λ (y : Pmac). Pass y.port leaving ∷ []) dest in
           let at = at_edge new ahead g x to in

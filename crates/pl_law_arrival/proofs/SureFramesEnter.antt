@@ -18,7 +18,7 @@ use Rattle.pl_layouts.proofs.Exports.{destination_of-arriving, known_is, length-
 use Rattle.pl_journal.specs.declared.cause.Cause.TheVariants.{BadArp, NotPlaced, Spent}
 use Rattle.pl_node.specs.declared.acts.Act.{Act}
 use Rattle.pl_node.specs.declared.acts.Act.TheVariants.{Drop, Pass}
-use Rattle.pl_node.specs.AddressUses.{is_in_use, standing_trap}
+use Rattle.pl_node.specs.AddressUses.{is_in_use}
 use Rattle.pl_node.specs.declared.switch_records.Grant.{Grant}
 use Rattle.pl_node.specs.PortRecords.{is_open_to_hosts, port_of}
 use Rattle.pl_node.specs.SwitchInputs.SwitchInput.{Comes}
@@ -164,11 +164,11 @@ module _ (choose : Choice) (v : SwitchView) (frame : List ℕ) (unicast : is_gro
   abbrev where_to : SwitchStep
   where_to = if is_local v (destination frame) then arrives_home choose v frame else forwards choose v (Some FromHost) frame
 
-  pub sends_home : (grant : Grant) → is_local v (destination frame) ≡ true → granted v (destination frame) ≡ Some grant → standing_trap grant.held ≡ None →
+  pub sends_home : (grant : Grant) → is_local v (destination frame) ≡ true → granted v (destination frame) ≡ Some grant → is_in_use grant.held ≡ true →
       sends_in choose frame v ≡ does v (Pass (destination frame).port (arriving frame None (Some grant.amac)) ∷ [])
-  sends_home grant own found free =
+  sends_home grant own found used =
       cond-false (is_group (destination_of frame)) (forwards_group v (Some FromHost) frame) where_to unicast
-      ∙ cond-true (is_local v (destination frame)) (arrives_home choose v frame) (forwards choose v (Some FromHost) frame) own ∙ arrives choose v frame grant found free
+      ∙ cond-true (is_local v (destination frame)) (arrives_home choose v frame) (forwards choose v (Some FromHost) frame) own ∙ arrives choose v frame grant found used
 
   pub sends_on : (n : ℕ) → is_local v (destination frame) ≡ false → choose (candidates_by v (destination frame) (Some FromHost)) frame ≡ Some n →
       sends_in choose frame v ≡ does v (Pass n frame ∷ [])

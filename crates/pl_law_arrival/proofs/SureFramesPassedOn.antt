@@ -9,12 +9,12 @@ use Rattle.pl_layouts.specs.Frames.{arriving}
 use Rattle.pl_layouts.specs.Memberships.{is_group}
 use Rattle.pl_layouts.specs.Placement.{is_placed}
 use Rattle.pl_node.specs.declared.acts.Act.TheVariants.{Pass}
-use Rattle.pl_node.specs.AddressUses.{standing_trap}
+use Rattle.pl_node.specs.AddressUses.{is_in_use}
 use Rattle.pl_node.specs.declared.switch_records.Grant.{Grant}
 use Rattle.pl_node.specs.PortRecords.{is_open_to_hosts, place_at, port_of, ports_of_switch}
 use Rattle.pl_node.specs.SwitchInputs.SwitchInput.{Comes}
 use Rattle.pl_node.specs.SwitchViews.{SwitchView}
-use Rattle.pl_node.proofs.Exports.{among_filter, among_filtered, among_of_Contains, among_range, IsAmong}
+use Rattle.pl_node.proofs.Exports.{among_filter, among_filtered, among_of_Contains, among_range, in_use_has_no_trap, IsAmong}
 use Rattle.pl_steps.specs.Steps.{SwitchStep, does, ◌▹◌}
 use Rattle.pl_switch_rule.specs.declared.came.Came.{Came}
 use Rattle.pl_switch_rule.specs.Delivering.{arrives_home, delivers_or_redirects, delivers_to, destination, grant_trap, tells_sender, trap_for}
@@ -23,6 +23,7 @@ use Rattle.pl_switch_rule.specs.Granting.{granted, is_local}
 use Rattle.pl_switch_rule.specs.GroupForwarding.{forwards_group}
 use Rattle.pl_switch_rule.specs.Intake.{comes_from_host}
 use Rattle.pl_switch_rule.specs.SwitchRule.{IsChoice, comes_from_switch, control_comes, data_comes, switch_step}
+use Rattle.pl_switch_rule.proofs.Exports.{held_in_use}
 use Rattle.pl_law_arrival.specs.Ways.{Fabric, HasPortOn, LeadsBy}
 
 -- the port that is chosen leads on
@@ -76,19 +77,19 @@ module _ (choose : Choice) (v : SwitchView) (q : ℕ) (frame : List ℕ) (well :
       step_is ∙ cond-false (is_local v (destination frame)) (arrives_home choose v frame) (forwards choose v (came_by v q) frame) elsewhere
       ∙ ap (λ c. forwards choose v c frame) came_so ∙ ap (leaves_by v frame) found
 
--- at the addressed edge switch, where the address is granted and no trap stands for it
-pub arrives : (choose : Choice) (v : SwitchView) (frame : List ℕ) (grant : Grant) → granted v (destination frame) ≡ Some grant → standing_trap grant.held ≡ None →
+-- at the addressed edge switch, where the address is in use
+pub arrives : (choose : Choice) (v : SwitchView) (frame : List ℕ) (grant : Grant) → granted v (destination frame) ≡ Some grant → is_in_use grant.held ≡ true →
     arrives_home choose v frame ≡ does v (Pass (destination frame).port (arriving frame None (Some grant.amac)) ∷ [])
-arrives choose v frame grant found free =
+arrives choose v frame grant found used =
     ap (λ o. delivers_or_redirects choose v frame o ▹ tells_sender choose frame o) no_trap
-    ∙ ap (λ o. delivers_to v (destination frame) frame o ▹ tells_sender choose frame None) found
+    ∙ ap (λ o. delivers_to v (destination frame) frame o ▹ tells_sender choose frame None) (held_in_use v (destination frame) grant found used)
   where
     no_trap : trap_for v (destination frame) ≡ None
-    no_trap = ap grant_trap found ∙ free
+    no_trap = ap grant_trap found ∙ in_use_has_no_trap grant.held used
 
 pub arrives_over_link : (choose : Choice) (v : SwitchView) (q : ℕ) (frame : List ℕ) (grant : Grant) → ComesWell v q frame → is_local v (destination frame) ≡ true →
-    granted v (destination frame) ≡ Some grant → standing_trap grant.held ≡ None →
+    granted v (destination frame) ≡ Some grant → is_in_use grant.held ≡ true →
     switch_step choose v (Comes q frame) ≡ does v (Pass (destination frame).port (arriving frame None (Some grant.amac)) ∷ [])
-arrives_over_link choose v q frame grant well here found free =
+arrives_over_link choose v q frame grant well here found used =
     step_is choose v q frame well ∙ cond-true (is_local v (destination frame)) (arrives_home choose v frame) (forwards choose v (came_by v q) frame) here
-    ∙ arrives choose v frame grant found free
+    ∙ arrives choose v frame grant found used

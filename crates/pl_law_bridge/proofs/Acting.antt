@@ -129,6 +129,7 @@ module _ (unsaid : ℕ → Target → ℕ) (s : ℕ) (frame : List ℕ) where
     taken = λ id. tt;
     placed = λ place. tt;
     granted = λ pmac h. tt;
+    freed = λ pmac. tt;
     by = λ a acts speech w none m. record {
       once = once_by (to_targets unsaid) s w a acts speech none m.once;
       travels = m.travels;

@@ -190,6 +190,7 @@ module _ (x : Whereabouts) (id : ℕ) (frame : List ℕ) where
   act_spares s bytes w speech late (act.Control port f) onward other all = absurd onward
   act_spares s bytes w speech late (act.Tell told) onward other all = absurd onward
   act_spares s bytes w speech late (act.Grant pmac amac) onward other all = absurd onward
+  act_spares s bytes w speech late (act.Free pmac) onward other all = absurd onward
   act_spares s bytes w speech late (act.Make f) onward other all = absurd onward
   act_spares s bytes w speech late (act.Redirect old new) onward other all = absurd onward
   act_spares s bytes w speech late act.Take onward other all = absurd onward

@@ -275,6 +275,7 @@ module _ (s : ℕ) (w : WorldView) (late : List Entry) (there : s < switch_count
   act_grows speech (act.Control p frame) fit = control_grows speech p frame fit.within
   act_grows speech (act.Tell told) fit = tell_grows speech told
   act_grows speech (act.Grant pmac amac) fit = grant_grows speech pmac amac (host_of w.plan amac)
+  act_grows speech (act.Free pmac) fit = quiet w s _ _ refl refl refl refl refl refl refl (λ port. refl) refl
   act_grows speech (act.Make frame) fit = quiet w s _ _ refl refl refl refl refl refl refl (λ port. refl) refl
   act_grows speech (act.Redirect old new) fit = redirect_grows speech old new
   act_grows speech (act.Pass p frame) fit = pass_grows speech p frame fit.within

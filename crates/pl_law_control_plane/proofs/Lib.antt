@@ -10,6 +10,7 @@ pub mod Adjacent
 pub mod Silent
 pub mod SilentFrames
 pub mod SilentHosts
+pub mod SilentAges
 pub mod HostsStayWithoutMoves
 pub mod KeptInRuns
 pub mod Naming

@@ -1,6 +1,6 @@
 -- Parts of a switch's step that discovery does not see: what it looks at stays, no control frame is sent, and frames leave by usable ports or to
 -- hosts.
-use Rattle.std.proofs.Common.{◌≡◌, ℕ, zero, suc, ◌+◌, ◌==◌, ◌||◌, ◌⊎◌, Bool, true, false, if◌then◌else◌, List, [], ◌∷◌, ◌++◌, length, Option, Some, None, get_or, set, slice_set, refl, ◌∙◌, subst, inl, inr, ◌-◌, get_or-set_other}
+use Rattle.std.proofs.Common.{◌≡◌, ℕ, zero, suc, ◌+◌, ◌==◌, ◌||◌, ◌⊎◌, Bool, true, false, if◌then◌else◌, List, [], ◌∷◌, ◌++◌, Option, Some, None, get_or, set, slice_set, refl, ◌∙◌, subst, inl, inr, ◌-◌, get_or-set_other}
 use Rattle.std.specs.List.{AllByRecursion}
 use Rattle.std.proofs.lemmas.Bool.{cases_eq, eqb-true}
 use Rattle.pl_lemmas.proofs.Exports.{all_append}
@@ -12,13 +12,14 @@ use Rattle.pl_layouts.specs.declared.place.Place.{Place}
 use Rattle.pl_layouts.specs.Placement.{is_placed}
 use Rattle.pl_node.specs.declared.acts.Act.{Act}
 use Rattle.pl_node.specs.declared.acts.Act.TheVariants as act
+use Rattle.pl_node.specs.declared.address_use.AddressUse.TheVariants.{InUse}
 use Rattle.pl_node.specs.declared.messages.ToManager.TheVariants.{Learned}
 use Rattle.pl_node.specs.declared.switch_records.Grant.{Grant}
 use Rattle.pl_node.specs.declared.switch_records.Source.{Source}
 use Rattle.pl_node.specs.PortRecords.{is_usable, port_of, ports_of_switch}
 use Rattle.pl_node.specs.SwitchViews.{SwitchView}
 use Rattle.pl_steps.specs.Steps.{SwitchStep, does, rests, ◌▹◌}
-use Rattle.pl_switch_rule.specs.Granting.{address_at_port, forgets, grant_number, granted, grants_at, grants_next, grants_or_learns, grants_remembered, grants_source, in_use, is_port_spent, learns_ip, learns_source, new_grant, or_else, remembered_at, remembered_ip, remembers, sender_ip, with_grant, with_grants}
+use Rattle.pl_switch_rule.specs.Granting.{address_at_port, all_but_first, behind, forgets, freed_at, grant_number, grants_at, grants_next, grants_or_learns, grants_remembered, grants_source, in_use, learns_ip, learns_source, new_grant, next_vmid, or_else, remembered_at, remembered_ip, remembers, sender_ip, uses, with_grants, with_next}
 use Rattle.pl_switch_rule.specs.Levels.{changes_to, has_become_placed, settles_in}
 use Rattle.pl_switch_rule.specs.Telling.{changes_told}
 use Rattle.pl_switch_rule.proofs.Exports.{told_acts}
@@ -137,11 +138,14 @@ still_step v w acts seen homes still = record { seen = seen; homes = homes; mute
 
 -- Granting, and learning of hosts.
 
-seen_grants : (v : SwitchView) (port : ℕ) (grants : List Grant) → IsSeen v (with_grants v port grants)
-seen_grants v port grants = record { id = refl; k = refl; place = refl; ports = refl; attempt = refl; proposed = refl; granted = refl; holds = refl }
+seen_grants : (v : SwitchView) (port : ℕ) (grants : List Grant) (used trapped : List Pmac) (freed : List (List ℕ)) →
+    IsSeen v (record (with_grants v port grants) { used = used; trapped = trapped; freed = freed })
+seen_grants v port grants used trapped freed =
+    record { id = refl; k = refl; place = refl; ports = refl; attempt = refl; proposed = refl; granted = refl; holds = refl }
 
-pub grants_homes : (v : SwitchView) (port : ℕ) (grants : List Grant) → (port_of v port).host ≡ true → HasHomes v → HasHomes (with_grants v port grants)
-grants_homes v port grants host homes = record {
+grants_homes : (v : SwitchView) (port : ℕ) (grants : List Grant) (used trapped : List Pmac) (freed : List (List ℕ)) → (port_of v port).host ≡ true → HasHomes v →
+    HasHomes (record (with_grants v port grants) { used = used; trapped = trapped; freed = freed })
+grants_homes v port grants used trapped freed host homes = record {
   grants = λ p none. elim (cases_eq p port) [
     | inl same ↦ absurd (let e : (port_of v p).host ≡ true = rw same host in cc)
     | inr differ ↦ get_or-set_other v.grants port p grants [] differ ∙ homes.grants p none
@@ -149,6 +153,14 @@ grants_homes v port grants host homes = record {
   remembered = homes.remembered;
   members = homes.members;
 }
+
+-- what was granted at a host port changes, and the orders of addresses
+pub addresses_silent : (v : SwitchView) (port : ℕ) (grants : List Grant) (used trapped : List Pmac) (freed : List (List ℕ)) (acts : List Act) → (port_of v port).host ≡ true →
+    HasHomes v → AllByRecursion IsStill acts →
+    IsSilent v (record { view = record (with_grants v port grants) { used = used; trapped = trapped; freed = freed }; acts = acts })
+addresses_silent v port grants used trapped freed acts host homes still =
+    still_step v (record (with_grants v port grants) { used = used; trapped = trapped; freed = freed }) acts (seen_grants v port grants used trapped freed)
+    (grants_homes v port grants used trapped freed host homes) still
 
 set_none : {T : Type 0} (xs : List (Option T)) (n : ℕ) → get_or (set xs n None) n None ≡ None
 set_none [] n = refl
@@ -169,30 +181,35 @@ source_homes v port source fine homes = record {
   members = homes.members;
 }
 
+uses_silent : (v : SwitchView) (address : Pmac) (grant : Grant) (acts : List Act) → (port_of v address.port).host ≡ true → HasHomes v →
+    AllByRecursion IsStill acts → IsSilent v (record { view = uses v address grant; acts = acts })
+uses_silent v address grant acts host homes still =
+    addresses_silent v address.port (slice_set (grants_at v address.port) (address.vmid - 1) (record grant { held = InUse 0 })) (behind address v.used) v.trapped v.freed acts
+    host homes still
+
 learns_ip_silent : (v : SwitchView) (address : Pmac) (grant : Option Grant) (ip : Option Ip4) → (port_of v address.port).host ≡ true → HasHomes v →
     IsSilent v (learns_ip v address grant ip)
 learns_ip_silent v address None ip host homes = still_does v [] homes tt
-learns_ip_silent v address (Some grant) None host homes = still_does v [] homes tt
+learns_ip_silent v address (Some grant) None host homes = uses_silent v address grant [] host homes tt
 learns_ip_silent v address (Some grant) (Some ip) host homes =
     let new : Grant = record grant { ip = Some ip } in
-    silent_if v (is_ip grant.ip ip) (rests v) (record { view = with_grant v address new; acts = act.Tell (Learned address grant.amac (Some ip)) ∷ [] })
-    (λ e. still_does v [] homes tt)
-    (λ e. still_step v (with_grant v address new) (act.Tell (Learned address grant.amac (Some ip)) ∷ []) (seen_grants v address.port _)
-    (grants_homes v address.port _ host homes) (tt, tt))
+    let told : List Act = act.Tell (Learned address grant.amac (Some ip)) ∷ [] in
+    silent_if v (is_ip grant.ip ip) (rests (uses v address grant)) (record { view = uses v address new; acts = told })
+    (λ e. uses_silent v address grant [] host homes tt) (λ e. uses_silent v address new told host homes (tt, tt))
 
-grants_next_silent : (v : SwitchView) (port : ℕ) (amac : Mac) (ip : Option Ip4) → (port_of v port).host ≡ true → HasHomes v → IsSilent v (grants_next v port amac ip)
-grants_next_silent v port amac ip host homes =
-    let address = address_at_port v port (length (grants_at v port) + 1) in
-    let grants = grants_at v port ++ new_grant amac ip ∷ [] in
-    still_step v (with_grants v port grants) (act.Grant address amac ∷ act.Tell (Learned address amac ip) ∷ []) (seen_grants v port grants)
-    (grants_homes v port grants host homes) (tt, (tt, tt))
+grants_next_silent : (v : SwitchView) (port : ℕ) (amac : Mac) (ip : Option Ip4) (vmid : Option ℕ) → (port_of v port).host ≡ true → HasHomes v →
+    IsSilent v (grants_next v port amac ip vmid)
+grants_next_silent v port amac ip None host homes = still_does v [] homes tt
+grants_next_silent v port amac ip (Some vmid) host homes =
+    let address : Pmac = address_at_port v port vmid in
+    addresses_silent v port (with_next (freed_at v port) (grants_at v port) (new_grant amac ip)) (v.used ++ address ∷ []) v.trapped
+    (slice_set v.freed port (all_but_first (freed_at v port))) (act.Grant address amac ∷ act.Tell (Learned address amac ip) ∷ []) host homes (tt, (tt, tt))
 
 grants_or_learns_silent : (v : SwitchView) (port : ℕ) (amac : Mac) (ip : Option Ip4) (vmid : Option ℕ) → (port_of v port).host ≡ true → HasHomes v →
     IsSilent v (grants_or_learns v port amac ip vmid)
 grants_or_learns_silent v port amac ip (Some vmid) host homes =
     learns_ip_silent v (address_at_port v port vmid) (grant_number (grants_at v port) vmid) ip host homes
-grants_or_learns_silent v port amac ip None host homes =
-    silent_if v (is_port_spent v port) (rests v) (grants_next v port amac ip) (λ e. still_does v [] homes tt) (λ e. grants_next_silent v port amac ip host homes)
+grants_or_learns_silent v port amac ip None host homes = grants_next_silent v port amac ip (next_vmid (freed_at v port) (grants_at v port)) host homes
 
 remembers_silent : (v : SwitchView) (port : ℕ) (amac : Mac) (ip : Option Ip4) → (port_of v port).host ≡ true → HasHomes v → IsSilent v (remembers v port amac ip)
 remembers_silent v port amac ip host homes =

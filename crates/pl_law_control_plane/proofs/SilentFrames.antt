@@ -29,7 +29,7 @@ use Rattle.pl_law_control_plane.specs.Homes.{HasHomes}
 use Rattle.pl_law_control_plane.proofs.Silent.{GoesWell, IsMute, IsSeen, IsSilent, seen_self}
 
 -- a port by which a frame may leave
-abbrev IsWay : SwitchView → ℕ → Type 0
+abbrev pub IsWay : SwitchView → ℕ → Type 0
 IsWay v port = (is_usable v port ≡ true) ⊎ ((port_of v port).host ≡ true)
 
 passed_filter : {T : Type 0} (P : T → Type 0) (test : T → Bool) (xs : List T) → ((x : T) → test x ≡ true → P x) → AllByRecursion P (filter test xs)
@@ -140,7 +140,7 @@ floods_frame_silent frame v homes =
 
 pub probes_silent : (old : Pmac) (grant : Grant) (v : SwitchView) → (port_of v old.port).host ≡ true → HasHomes v → IsSilent v (probes old grant v)
 probes_silent old grant v host homes =
-    row_silent v (probes old grant v) (probes_stay old grant v) homes (λ P may made. probes_acts P (IsWay v) may old grant v (inr host) (λ ip. made _))
+    row_silent v (probes old grant v) (probes_stay old grant v) homes (λ P may made. probes_acts P (IsWay v) may.passed old grant v (inr host) (λ ip. made _))
 
 pub packet_silent : (v : SwitchView) (port : ℕ) (frame : List ℕ) → HasHomes v → IsSilent v (does v (packet_acts v port frame (packet_in frame)) ▹ takes)
 packet_silent v port frame homes =

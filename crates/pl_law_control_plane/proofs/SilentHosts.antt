@@ -1,6 +1,7 @@
 -- What a switch does with a host's frame, and with most messages of the manager, is not seen by discovery.
-use Rattle.std.proofs.Common.{◌≡◌, ℕ, ◌==◌, ◌&&◌, not, Bool, true, false, if◌then◌else◌, List, [], ◌∷◌, Option, Some, None, refl, fold, Ordering, Less, Equal, Greater, filter}
+use Rattle.std.proofs.Common.{◌≡◌, ℕ, ◌-◌, ◌==◌, nat_lt, slice_set, ◌&&◌, not, Bool, true, false, if◌then◌else◌, List, [], ◌∷◌, Option, Some, None, refl, fold, Ordering, Less, Equal, Greater, filter}
 use Rattle.std.specs.List.{AllByRecursion}
+use Rattle.std.proofs.lemmas.Bool.{cond_both}
 use Rattle.std.specs.BTreeSet.{insert_key}
 use Rattle.std.specs.Ordering.{match_ordering}
 use Rattle.pl_lemmas.proofs.Exports.{all_filter}
@@ -10,6 +11,8 @@ use Rattle.pl_pmac.specs.declared.pmac.Pmac.{Pmac}
 use Rattle.pl_layouts.specs.declared.membership.Change.{Change}
 use Rattle.pl_layouts.specs.Memberships.{changes_in, group_number}
 use Rattle.pl_node.specs.declared.acts.Act.TheVariants as act
+use Rattle.pl_node.specs.AddressUses.{standing_trap}
+use Rattle.pl_node.specs.declared.address_use.AddressUse.TheVariants.{Trapped}
 use Rattle.pl_node.specs.declared.switch_records.Grant.{Grant}
 use Rattle.pl_node.specs.declared.switch_records.Member.{Member}
 use Rattle.pl_node.specs.declared.trap.Trap.{Trap}
@@ -18,14 +21,14 @@ use Rattle.pl_node.specs.SwitchViews.{SwitchView}
 use Rattle.pl_steps.specs.Steps.{SwitchStep, does, rests, ◌▹◌}
 use Rattle.pl_switch_rule.specs.Delivering.{makes}
 use Rattle.pl_switch_rule.specs.Forwarding.{Choice}
-use Rattle.pl_switch_rule.specs.Granting.{granted}
+use Rattle.pl_switch_rule.specs.Granting.{behind, grants_at, held_here, without}
 use Rattle.pl_switch_rule.specs.Intake.{changes_member, groups_told, hears_members, is_member, joins, leaves, member_cmp, members_become, takes, takes_in_or_spent, with_members, with_pmac}
-use Rattle.pl_switch_rule.specs.Messages.{floods, forgets_members, invalidates, probes, sets_trap}
+use Rattle.pl_switch_rule.specs.Messages.{floods, forgets_members, invalidates, probes, sets_trap, sets_trap_over, with_trap}
 use Rattle.pl_switch_rule.specs.SwitchRule.{IsChoice}
-use Rattle.pl_switch_rule.proofs.Exports.{groups_acts, taken_in}
+use Rattle.pl_switch_rule.proofs.Exports.{groups_acts, held_parts, taken_in}
 use Rattle.pl_law_control_plane.specs.Homes.{HasHomes}
 use Rattle.pl_law_control_plane.proofs.SilentFrames.{floods_frame_silent, granted_host, makes_silent, packet_silent, probes_silent, sends_in_silent}
-use Rattle.pl_law_control_plane.proofs.Silent.{IsSilent, IsStill, grants_homes, silent_if, silent_then, still_does, still_step}
+use Rattle.pl_law_control_plane.proofs.Silent.{IsSilent, IsStill, addresses_silent, silent_if, silent_then, still_does, still_step}
 
 -- Members.
 
@@ -80,15 +83,26 @@ pub floods_silent : (frame : List ℕ) (v : SwitchView) (b : Bool) → HasHomes 
 floods_silent frame v b homes =
     silent_if v b (floods v frame) (rests v) (λ e. floods_frame_silent frame v homes) (λ e. still_does v [] homes tt)
 
-pub invalidates_silent : (v : SwitchView) (old : Pmac) (trap : Trap) (grant : Option Grant) → granted v old ≡ grant → HasHomes v → IsSilent v (invalidates v old trap grant)
+set_silent : (v : SwitchView) (old : Pmac) (grant : Grant) (trap : Trap) → (port_of v old.port).host ≡ true → HasHomes v →
+    IsSilent v (does (with_trap v old grant trap) [])
+set_silent v old grant trap host homes =
+    addresses_silent v old.port (slice_set (grants_at v old.port) (old.vmid - 1) (record grant { held = Trapped trap 0 })) (without old v.used) (behind old v.trapped) v.freed
+    [] host homes tt
+
+trap_silent : (v : SwitchView) (old : Pmac) (grant : Grant) (trap : Trap) (standing : Option Trap) → (port_of v old.port).host ≡ true → HasHomes v →
+    IsSilent v (does (sets_trap_over standing v old grant trap) [])
+trap_silent v old grant trap None host homes = set_silent v old grant trap host homes
+trap_silent v old grant trap (Some standing) host homes =
+    cond_both (nat_lt trap.number standing.number) v (with_trap v old grant trap) (λ (w : SwitchView). IsSilent v (does w [])) (λ smaller. still_does v [] homes tt)
+    (λ larger. set_silent v old grant trap host homes)
+
+pub invalidates_silent : (v : SwitchView) (old : Pmac) (trap : Trap) (grant : Option Grant) → held_here v old ≡ grant → HasHomes v → IsSilent v (invalidates v old trap grant)
 invalidates_silent v old trap None is homes = still_does v [] homes tt
 invalidates_silent v old trap (Some grant) is homes =
-    let host = granted_host v old grant is homes in
+    let host = granted_host v old grant (held_parts v old grant is) homes in
     let first : SwitchStep = does (sets_trap v old grant trap) [] in
     silent_then v (first ▹ forgets_members old.port grant.amac) (probes old grant)
-    (silent_then v first (forgets_members old.port grant.amac)
-    (still_step v (sets_trap v old grant trap) [] (record { id = refl; k = refl; place = refl; ports = refl; attempt = refl; proposed = refl; granted = refl; holds = refl })
-    (grants_homes v old.port _ host homes) tt)
+    (silent_then v first (forgets_members old.port grant.amac) (trap_silent v old grant trap (standing_trap grant.held) host homes)
     (λ w seen at. members_step w (filter (λ m. not (is_member old.port grant.amac m)) w.members) at
     (all_filter (λ m. (port_of w m.port).host ≡ true) (λ m. not (is_member old.port grant.amac m)) w.members at.members)))
     (λ w seen at. probes_silent old grant w (rw seen.ports host) at)

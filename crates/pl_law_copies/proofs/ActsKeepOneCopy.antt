@@ -50,6 +50,7 @@ acts_keep s = record {
   taken = λ id. tt;
   placed = λ place. tt;
   granted = λ pmac h. tt;
+  freed = λ pmac. tt;
   by = λ a acts speech w none k. (once_by to_ports s w a acts speech none k.0, makes_fewer w.plan s a acts k.1);
   over = λ acts speech w k. (once_over to_ports s w acts speech k.0, k.1);
   control = λ port frame acts speech w k. (once_control to_ports s w port frame acts speech k.0, k.1);

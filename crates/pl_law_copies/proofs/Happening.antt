@@ -33,7 +33,7 @@ use Rattle.pl_steps.specs.Steps.{SwitchStep}
 use Rattle.pl_switch_rule.specs.Announcing.{ticks}
 use Rattle.pl_switch_rule.specs.Intake.{comes_from_host}
 use Rattle.pl_switch_rule.specs.SwitchRule.{Loose, comes_from_switch, control_comes, data_comes, switch_step}
-use Rattle.pl_switch_rule.proofs.Exports.{quiet_control_comes, quiet_ticks}
+use Rattle.pl_switch_rule.proofs.Exports.{quiet_control_comes}
 use Rattle.pl_world.specs.declared.event.Event.{Event}
 use Rattle.pl_world.specs.declared.event.Event.TheVariants as event
 use Rattle.pl_world.specs.declared.event.QueueName.TheVariants as queue
@@ -55,7 +55,7 @@ use Rattle.pl_law_counts.proofs.Exports.{claim, control_keeps, empty_host, empty
 use Rattle.pl_law_copies.specs.Copies.{came_to, ComesOnce, may_come, may_come_by, to_ports}
 use Rattle.pl_law_copies.specs.Standing.{KnowTrees}
 use Rattle.pl_law_copies.proofs.ActsKeepOneCopy.{acts_keep, IsKeptBy, IsNoCopyEntry}
-use Rattle.pl_law_copies.proofs.SinglePasses.{AreSingle, hears_single, host_single, quiet_still, single_few, single_used, still_is_single}
+use Rattle.pl_law_copies.proofs.SinglePasses.{AreSingle, hears_single, host_single, quiet_still, single_few, single_used, still_is_single, ticks_single}
 use Rattle.pl_law_copies.proofs.TurnsKeepOneCopy.{host_comes, Keeps, keeps_writes, LetsFew, noted_once, over_link_few}
 
 module _ (accounts : AccountsForFrames Loose) (w : WorldView) (counted : IsCounted w) (come : ComesOnce w) (new : WorldView) where
@@ -70,8 +70,7 @@ module _ (accounts : AccountsForFrames Loose) (w : WorldView) (counted : IsCount
   ticks_come s turn =
       let shaped : IsShaped turn.before = all_found IsShaped w.switches s.0 turn.before turn.found so.rest.shaped in
       let step : turn.acts ≡ (ticks turn.before).acts = turn.ruled.steps.done in
-      let few = single_few w.plan s.0 false turn.acts (subst (λ a. AreSingle false a) (sym step)
-      (still_is_single false (ticks turn.before).acts (quiet_still turn.before (ticks turn.before) (quiet_ticks turn.before shaped)))) in
+      let few = single_few w.plan s.0 false turn.acts (subst (λ a. AreSingle false a) (sym step) (ticks_single turn.before shaped)) in
       (tick_keeps Loose accounts w so new s IsNoCopyEntry (IsKeptBy s.0) (acts_keep s.0) turn (come, few)).0
 
   says_come : (s : SwitchNo) (says : ToSwitch) (items : List ToSwitch) → SwitchTurn Loose (record w { from_manager = set w.from_manager s.0 items }) s.0 (Says says) Silent new →

@@ -1,5 +1,5 @@
 -- Each step of the control plane keeps it that what is told and ordered is so.
-use Rattle.std.proofs.Common.{◌≡◌, ℕ, ◌+◌, ◌<◌, ◌==◌, Bool, true, false, cond, if◌then◌else◌, List, [], ◌∷◌, ◌++◌, map, Option, None, Some, get_or, length, slice_get, unwrap_or, refl, sym, ap, ◌∙◌, subst, inl, inr, true≢false}
+use Rattle.std.proofs.Common.{◌≡◌, ℕ, ◌+◌, ◌<◌, ◌==◌, Bool, true, false, cond, if◌then◌else◌, List, [], ◌∷◌, ◌++◌, map, Option, None, Some, get_or, slice_get, unwrap_or, refl, sym, ap, ◌∙◌, subst, inl, inr, true≢false}
 use Rattle.std.specs.List.{AllByRecursion, flat_map, position}
 use Rattle.std.specs.Ordering.{match_ordering, nat_cmp}
 use Rattle.std.specs.declared.cmp.Ordering.{Ordering}
@@ -15,7 +15,7 @@ use Rattle.pl_frame.specs.declared.address.SwitchId.{SwitchId}
 use Rattle.pl_frame.specs.declared.address.Ip4.{Ip4}
 use Rattle.pl_frame.specs.declared.address.Mac.{Mac}
 use Rattle.pl_pmac.specs.declared.pmac.Pmac.{Pmac}
-use Rattle.pl_wiring.specs.Labels.{edge_count, label_of, switch_count}
+use Rattle.pl_wiring.specs.Labels.{edge_count, switch_count}
 use Rattle.pl_wiring.specs.Plan.{IsPlan, Plan}
 use Rattle.pl_wiring.proofs.Exports.{label_of-edge}
 use Rattle.pl_layouts.specs.declared.place.Place.{Place}
@@ -32,7 +32,7 @@ use Rattle.pl_node.specs.declared.messages.TreePart.{TreePart}
 use Rattle.pl_node.specs.declared.switch_records.Member.{Member}
 use Rattle.pl_node.specs.AvoidLists.{avoid_list}
 use Rattle.pl_node.specs.ManagerFacts.{groups}
-use Rattle.pl_node.specs.ManagerViews.{Learnt, ManagerView, Registration, id_cmp, link_cmp, lookup, members_cmp, newest, registry}
+use Rattle.pl_node.specs.ManagerViews.{Learnt, ManagerView, Registration, id_cmp, link_cmp, lookup, members_cmp, newest}
 use Rattle.pl_node.specs.PortRecords.{id_at, is_open_to_hosts, port_of}
 use Rattle.pl_node.specs.SwitchInputs.{SwitchInput}
 use Rattle.pl_node.specs.SwitchInputs.SwitchInput.{Comes, Says, Tick}
@@ -40,8 +40,8 @@ use Rattle.pl_node.specs.SwitchViews.{SwitchView}
 use Rattle.pl_node.proofs.Exports.{closed_by}
 use Rattle.pl_steps.specs.Steps.{SwitchStep}
 use Rattle.pl_manager_rule.specs.Histories.{link_said}
-use Rattle.pl_manager_rule.specs.ManagerRule.{acts_of, answer_to, avoid_acts, changed, changed_of_group, invalidation, learning, manager_hears, manager_rule, part_in, reply, tree_acts, tree_acts_of, view_after}
-use Rattle.pl_manager_rule.proofs.Exports.{id_exact, link_exact, members_exact, same_is}
+use Rattle.pl_manager_rule.specs.ManagerRule.{acts_of, answer_to, avoid_acts, changed, changed_of_group, hears_aged, invalidation, learning, manager_hears, manager_rule, part_in, reply, tree_acts, tree_acts_of, view_after}
+use Rattle.pl_manager_rule.proofs.Exports.{AreReleases, aged_releases, id_exact, link_exact, members_exact, same_is}
 use Rattle.pl_switch_rule.specs.Intake.{comes_from_host, has_member_of}
 use Rattle.pl_switch_rule.specs.Forwarding.{Choice}
 use Rattle.pl_switch_rule.specs.Messages.{hears_manager}
@@ -90,6 +90,7 @@ report_later plan s old new later (tell.Place place) so = true_later place old n
 report_later plan s old new later (tell.Link u usable) so = so
 report_later plan s old new later tell.PodWanted so = so
 report_later plan s old new later (tell.Learned pmac amac ip) so = so
+report_later plan s old new later (tell.Aged pmac number) so = so
 report_later plan s old new later (tell.Query asker asker_ip ip) so = so
 report_later plan s old new later (tell.Members group any) so = so
 
@@ -140,6 +141,7 @@ module _ (plan : Plan) (s : ℕ) where
   near_words (tell.Place place ∷ words) quiet = (tt, near_words words quiet)
   near_words (tell.PodWanted ∷ words) quiet = (tt, near_words words quiet)
   near_words (tell.Learned pmac amac ip ∷ words) quiet = (tt, near_words words quiet)
+  near_words (tell.Aged pmac number ∷ words) quiet = (tt, near_words words quiet)
   near_words (tell.Query asker asker_ip ip ∷ words) quiet = (tt, near_words words quiet)
   near_words (tell.Members group any ∷ words) quiet = (tt, near_words words quiet)
 
@@ -150,6 +152,7 @@ module _ (plan : Plan) (s : ℕ) where
   both_true own (tell.Link u usable ∷ words) said near = (near.0, both_true own words said.1 near.1)
   both_true own (tell.PodWanted ∷ words) said near = (tt, both_true own words said.1 near.1)
   both_true own (tell.Learned pmac amac ip ∷ words) said near = (tt, both_true own words said.1 near.1)
+  both_true own (tell.Aged pmac number ∷ words) said near = (tt, both_true own words said.1 near.1)
   both_true own (tell.Query asker asker_ip ip ∷ words) said near = (tt, both_true own words said.1 near.1)
   both_true own (tell.Members group any ∷ words) said near = (said.0, both_true own words said.1 near.1)
 
@@ -181,6 +184,7 @@ module _ (plan : Plan) (is : IsPlan plan) where
   parts_true s (Says (say.Answer a b c d)) parts order all = all
   parts_true s (Says (say.Flood a b c)) parts order all = all
   parts_true s (Says (say.Invalidate a b c d)) parts order all = all
+  parts_true s (Says (say.Release a)) parts order all = all
 
   -- a switch steps
   turn_trees : (f g : ControlPlane) (s : ℕ) (input : SwitchInput) (turns : SwitchTurns Loose f s input g) → ((t : ℕ) → IsTrueOf (f.view t).place (g.view t).place) →
@@ -265,9 +269,15 @@ module _ (plan : Plan) (is : IsPlan plan) where
       cond_both _ [] (Number pmac (before.count + 1) ∷ invalidation after pmac (before.count + 1) (newest before amac)) AreTrueSaid
       (λ known. tt) (λ new. (tt, recalled_true after pmac (before.count + 1) (newest before amac)))
 
+  released_true : (learnt : Learnt) (acts : List ManagerAct) → AreReleases learnt acts → AreTrueSaid acts
+  released_true learnt [] all = tt
+  released_true learnt (a ∷ acts) all = (subst IsTrueSaid (sym all.0.is) (λ s named. tt), released_true learnt acts all.1)
+
   reply_true : (before after : ManagerView) (id : SwitchId) (told : ToManager) → AreTrueSaid (reply before after id told)
   reply_true before after id tell.PodWanted = (λ s named. tt, tt)
   reply_true before after id (tell.Learned pmac amac ip) = learning_true before.learnt after.learnt pmac amac
+  reply_true before after id (tell.Aged pmac number) =
+      released_true before.learnt (hears_aged before.learnt pmac number).acts (aged_releases before.learnt pmac number)
   reply_true before after id (tell.Query asker asker_ip ip) = (answer_true id asker asker_ip ip (lookup after.learnt ip), tt)
   reply_true before after id (tell.Place place) = tt
   reply_true before after id (tell.Link u usable) = tt
@@ -309,6 +319,7 @@ module _ (plan : Plan) (is : IsPlan plan) where
     places_after views (tell.Link u usable) so all = all
     places_after views tell.PodWanted so all = all
     places_after views (tell.Learned pmac amac ip) so all = all
+    places_after views (tell.Aged pmac number) so all = all
     places_after views (tell.Query asker asker_ip ip) so all = all
     places_after views (tell.Members group any) so all = all
 
@@ -319,6 +330,7 @@ module _ (plan : Plan) (is : IsPlan plan) where
     links_after own (tell.Place place) so all = all
     links_after own tell.PodWanted so all = all
     links_after own (tell.Learned pmac amac ip) so all = all
+    links_after own (tell.Aged pmac number) so all = all
     links_after own (tell.Query asker asker_ip ip) so all = all
     links_after own (tell.Members group any) so all = all
 
@@ -330,6 +342,7 @@ module _ (plan : Plan) (is : IsPlan plan) where
     members_after own (tell.Link u usable) so all = all
     members_after own tell.PodWanted so all = all
     members_after own (tell.Learned pmac amac ip) so all = all
+    members_after own (tell.Aged pmac number) so all = all
     members_after own (tell.Query asker asker_ip ip) so all = all
 
   manager_trees : (f m g : ControlPlane) (s : ℕ) (id : SwitchId) (told : ToManager) → f.plan ≡ plan → ((t : ℕ) → IsLevel (level_of plan.k t) (f.view t).place) →

@@ -1,6 +1,6 @@
 -- All other acts pass each frame on at most once.
 use Rattle.std.proofs.Common.{◌≡◌, ℕ, ◌≤◌, ◌<◌, ◌||◌, Bool, true, false, if◌then◌else◌, List, [], ◌∷◌, ◌++◌, Option, None, Some, length, refl, sym, ap, ◌∙◌, subst, arith}
-use Rattle.std.specs.List.{AllByRecursion}
+use Rattle.std.specs.List.{AllByRecursion, flat_map}
 use Rattle.std.proofs.lemmas.Bool.{cond_both, false≢true}
 use Rattle.std.proofs.lemmas.List.{append-nil}
 use Rattle.pl_frame.specs.declared.address.Ip4.{Ip4}
@@ -21,21 +21,23 @@ use Rattle.pl_node.specs.AddressUses.{is_in_use}
 use Rattle.pl_node.specs.declared.switch_records.Grant.{Grant}
 use Rattle.pl_node.specs.declared.trap.Trap.{Trap}
 use Rattle.pl_node.specs.declared.messages.ToSwitch.{ToSwitch}
-use Rattle.pl_node.specs.declared.messages.ToSwitch.TheVariants.{Answer, Avoid, Flood, Invalidate, Pod, Tree}
+use Rattle.pl_node.specs.declared.messages.ToSwitch.TheVariants.{Answer, Avoid, Flood, Invalidate, Pod, Release, Tree}
 use Rattle.pl_node.specs.Accounting.{IsShaped, FrameState, frame_state, frame_state_after}
 use Rattle.pl_node.specs.Accounting.FrameState.{Ended, Passed, Redirected, Silent, Waiting, Wrong}
 use Rattle.pl_node.specs.SwitchViews.{SwitchView}
 use Rattle.pl_steps.specs.Steps.{SwitchStep, does, rests, ◌▹◌}
+use Rattle.pl_switch_rule.specs.Aging.{ages, all_age_out, probe_of, probes_idle, to_probe, to_rest, with_older}
+use Rattle.pl_switch_rule.specs.Announcing.{tells_neighbours, ticks}
 use Rattle.pl_switch_rule.specs.declared.came.Came.{Came}
 use Rattle.pl_switch_rule.specs.declared.came.Came.TheVariants.{FromHost}
 use Rattle.pl_switch_rule.specs.Delivering.{addresses, arrives_home, begins, comes_home, delivers, delivers_or_redirects, delivers_to, destination, goes_on, last_trap, makes, newer_address, redirects, tells_newer, tells_sender, trap_for}
 use Rattle.pl_switch_rule.specs.Forwarding.{Choice, candidates_by, forwards, leaves_by}
-use Rattle.pl_switch_rule.specs.Granting.{granted, is_granted, is_local, learns_source}
+use Rattle.pl_switch_rule.specs.Granting.{granted, held_here, is_granted, is_local, learns_source}
 use Rattle.pl_switch_rule.specs.GroupForwarding.{at_most_one, destination_group, forwards_group, no_way, passes_or_drops}
 use Rattle.pl_switch_rule.specs.Intake.{comes_from_host, hears_members, packet_acts, sends_in, takes_in_or_spent, with_pmac}
 use Rattle.pl_switch_rule.specs.Levels.{finds_host}
-use Rattle.pl_switch_rule.specs.Messages.{answer_frame, flood_frame, floods, forgets_members, hears_manager, invalidates, probes, probes_at, sets_trap}
-use Rattle.pl_switch_rule.proofs.Exports.{AreGrantedAt, arp_acts, granted_at, groups_acts, IsQuiet, quiet_finds_host, quiet_forgets_members, quiet_hears_pod, quiet_learns_source, quiet_sets_trap, quiet_then_quiet, redirects_acts, taken_in}
+use Rattle.pl_switch_rule.specs.Messages.{answer_frame, flood_frame, floods, forgets_members, hears_manager, invalidates, probe_acts, probes, probes_at, sets_trap}
+use Rattle.pl_switch_rule.proofs.Exports.{all_age_out_acts, AreGrantedAt, arp_acts, frees_acts, groups_acts, held_at, IsQuiet, quiet_finds_host, quiet_forgets_members, quiet_hears_pod, quiet_learns_source, quiet_neighbours, quiet_sets_trap, quiet_then_quiet, redirects_acts, taken_in}
 use Rattle.pl_law_counts.proofs.Exports.{one_at_most, used}
 use Rattle.pl_law_copies.specs.Copies.{may_come_by}
 use Rattle.pl_law_copies.proofs.ActsKeepOneCopy.{MakesFew}
@@ -63,6 +65,7 @@ module _ (plan : Plan) (s : ℕ) (there : EdgePort) where
   single_used may (act.Control port frame ∷ acts) single = single_used may acts single
   single_used may (act.Tell told ∷ acts) single = single_used may acts single
   single_used may (act.Grant pmac amac ∷ acts) single = single_used may acts single
+  single_used may (act.Free pmac ∷ acts) single = single_used may acts single
   single_used true (act.Make frame ∷ acts) single = omega arith
   single_used false (act.Make frame ∷ acts) single = omega arith
   single_used may (act.Redirect old new ∷ acts) single = single_used may acts single
@@ -123,6 +126,7 @@ silent_is_still [] is = tt
 silent_is_still (act.Control port frame ∷ acts) is = (tt, silent_is_still acts is)
 silent_is_still (act.Tell told ∷ acts) is = (tt, silent_is_still acts is)
 silent_is_still (act.Grant pmac amac ∷ acts) is = (tt, silent_is_still acts is)
+silent_is_still (act.Free pmac ∷ acts) is = (tt, silent_is_still acts is)
 silent_is_still (act.Make frame ∷ acts) is = absurd (false≢true (sym (speaks_to_the_end Waiting acts refl) ∙ ap is_silent is))
 silent_is_still (a ∷ acts) is = absurd (false≢true (sym (speaks_to_the_end Wrong acts refl) ∙ ap is_silent is))
 
@@ -155,10 +159,10 @@ delivers_single v address frame (Some grant) = (refl, tt)
 
 goes_on_single : (choose : Choice) (v : SwitchView) (frame : List ℕ) → IsSingle (goes_on choose v frame)
 goes_on_single choose v frame = cond_both (is_local v (destination frame)) (delivers v frame) (forwards choose v (Some FromHost) frame) IsSingle
-    (λ own. delivers_single v (destination frame) frame (granted v (destination frame))) (λ other. forwards_single choose v (Some FromHost) frame)
+    (λ own. delivers_single v (destination frame) frame (held_here v (destination frame))) (λ other. forwards_single choose v (Some FromHost) frame)
 
 home_single : (choose : Choice) (v : SwitchView) (frame : List ℕ) (o : Option Trap) → IsSingle (delivers_or_redirects choose v frame o)
-home_single choose v frame None = delivers_single v (destination frame) frame (granted v (destination frame))
+home_single choose v frame None = delivers_single v (destination frame) frame (held_here v (destination frame))
 home_single choose v frame (Some trap) =
     still_single true (act.Redirect (destination frame) trap.new ∷ redirects (addresses v) v trap)
     (goes_on choose v (with_destination frame (mac_of (last_trap (addresses v) v trap).new))).acts
@@ -213,9 +217,30 @@ host_single choose v port frame shaped within long =
     (takes_in_single choose port frame known.view))
 
 -- a message of the manager
-probes_single : (old : Pmac) (amac : Mac) (o : Option Ip4) (v : SwitchView) (b : Bool) → AreSingle b (probes_at old amac o v).acts
-probes_single old amac None v b = tt
-probes_single old amac (Some ip) v b = (refl, tt)
+probes_single : (old : Pmac) (amac : Mac) (o : Option Ip4) (b : Bool) → AreSingle b (probe_acts old amac o)
+probes_single old amac None b = tt
+probes_single old amac (Some ip) b = (refl, tt)
+
+-- at a tick more than one host may be probed
+of_grant_single : (x : Pmac) (o : Option Grant) (b : Bool) → AreSingle b (probe_of x o)
+of_grant_single x None b = tt
+of_grant_single x (Some grant) b = probes_single x grant.amac grant.ip b
+
+probed_single : (v : SwitchView) (xs : List Pmac) (b : Bool) → AreSingle b (flat_map (λ x. probe_of x (granted v x)) xs)
+probed_single v [] b = tt
+probed_single v (x ∷ xs) b =
+    single_then b (probe_of x (granted v x)) (flat_map (λ y. probe_of y (granted v y)) xs) (of_grant_single x (granted v x) b) (λ c. probed_single v xs c)
+
+ages_single : (v : SwitchView) (b : Bool) → AreSingle b (ages v).acts
+ages_single v b =
+    let older : SwitchView = with_older v in
+    single_then b (probes_idle older) (all_age_out (to_rest older) older).acts (probed_single older (to_probe older) b)
+    (λ c. still_is_single c (all_age_out (to_rest older) older).acts (all_age_out_acts IsStill (λ x number. tt) (to_rest older) older))
+
+pub ticks_single : (v : SwitchView) → IsShaped v → AreSingle false (ticks v).acts
+ticks_single v shaped =
+    let told : SwitchStep = tells_neighbours v in
+    still_single false told.acts (ages told.view).acts (quiet_still v told (quiet_neighbours v shaped)) (ages_single told.view false)
 
 invalidates_single : (v : SwitchView) (old : Pmac) (trap : Trap) (o : Option Grant) → IsShaped v → AreGrantedAt v.k old.port o →
     AreSingle false (invalidates v old trap o).acts
@@ -228,7 +253,7 @@ invalidates_single v old trap (Some grant) shaped at =
     (λ w same. quiet_forgets_members w old.port grant.amac same.shaped) in
     still_single false forgot.acts (probes old grant forgot.view).acts (quiet_still v forgot quiet)
     (cond_both (is_in_use grant.held) (probes_at old grant.amac grant.ip forgot.view) (rests forgot.view) (λ step. AreSingle false step.acts)
-    (λ used. probes_single old grant.amac grant.ip forgot.view false) (λ unused. tt))
+    (λ used. probes_single old grant.amac grant.ip false) (λ unused. tt))
 
 pub hears_single : (choose : Choice) (v : SwitchView) (says : ToSwitch) → IsShaped v → AreSingle false (hears_manager choose v says).acts
 hears_single choose v (Pod pod) shaped = still_is_single false _ (quiet_still v _ (quiet_hears_pod v pod shaped))
@@ -241,4 +266,5 @@ hears_single choose v (Flood asker asker_ip ip) shaped =
     cond_both (is_granted v asker) (floods v (flood_frame asker asker_ip ip)) (rests v) (λ step. AreSingle false step.acts)
     (λ known. group_up_single v (flood_frame asker asker_ip ip)) (λ unknown. tt)
 hears_single choose v (Invalidate old new number ip) shaped =
-    invalidates_single v old (record { new = new; number = number; ip = ip }) (granted v old) shaped (granted_at v old shaped)
+    invalidates_single v old (record { new = new; number = number; ip = ip }) (held_here v old) shaped (held_at v old shaped)
+hears_single choose v (Release address) shaped = still_is_single false _ (frees_acts IsStill (λ x. tt) v address (granted v address))

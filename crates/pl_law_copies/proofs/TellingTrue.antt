@@ -45,6 +45,8 @@ module _ (own : Place → Type 0) (edge : Type 0) where
     frames = record { passed = λ port frame way. tt; redirected = λ old new. tt; dropped = λ cause. tt; taken = tt; asked = λ asker asker_ip ip. tt };
     grants = record { granted = λ address amac. tt; learnt = λ address amac ip. tt };
     made = λ frame. tt;
+    aged = λ address number. tt;
+    freed = λ address. tt;
   }
 
   change_acts : (place : Place) → own place → ChangeActs place IsTrueAct
@@ -54,7 +56,7 @@ module _ (own : Place → Type 0) (edge : Type 0) where
   over_link_true choose v port frame = switch_frame_acts IsTrueAct IsAnyPort host_acts.frames choose v (any_way choose v) port frame (λ trap met ip. tt)
 
   pub ticks_true : (v : SwitchView) → own v.place → Says (ticks v)
-  ticks_true v so = ticks_acts IsTrueAct v (change_acts v.place so) (λ port frame. tt)
+  ticks_true v so = ticks_acts IsTrueAct v (change_acts v.place so) (λ port frame. tt) (λ port frame. tt) (λ frame. tt) (λ address number. tt)
 
   -- a frame of a host, at an edge switch
   pub of_host_true : (choose : Choice) (v : SwitchView) (port : ℕ) (frame : List ℕ) → edge → own (comes_from_host choose v port frame).view.place →

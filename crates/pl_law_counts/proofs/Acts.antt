@@ -13,7 +13,7 @@ use Rattle.pl_layouts.specs.Placement.{same_place}
 use Rattle.pl_journal.specs.declared.cause.Cause.{Cause}
 use Rattle.pl_journal.specs.declared.cause.Cause.TheVariants as cause
 use Rattle.pl_journal.specs.declared.entry.Entry.{Entry}
-use Rattle.pl_journal.specs.declared.entry.Entry.TheVariants.{Copied, Crossed, Dropped, Granted, Made, Placed, Redirected, Taken}
+use Rattle.pl_journal.specs.declared.entry.Entry.TheVariants.{Copied, Crossed, Dropped, Freed, Granted, Made, Placed, Redirected, Taken}
 use Rattle.pl_node.specs.declared.acts.Act.{Act}
 use Rattle.pl_node.specs.declared.acts.Act.TheVariants as act
 use Rattle.pl_node.specs.declared.messages.ToManager.{ToManager}
@@ -67,6 +67,7 @@ pub record KeptByActs (s : ℕ) (Quiet : Entry → Type 0) (Kept : List Act → 
   pub taken : (id : ℕ) → Quiet (Taken id (switch_no s))
   pub placed : (place : Place) → Quiet (Placed (switch_no s) place)
   pub granted : (pmac : Pmac) (h : HostNo) → Quiet (Granted pmac h (switch_no s) pmac.port)
+  pub freed : (pmac : Pmac) → Quiet (Freed pmac)
   -- an act that is left out; the frame in hand is no more spoken of
   pub by : (a : Act) (acts : List Act) (speech : SpokenFrame) (w : WorldView) → IsNoMake a → Kept (a ∷ acts) speech w → Kept acts speech w
   pub over : (acts : List Act) (speech : SpokenFrame) (w : WorldView) → Kept acts speech w → Kept acts Over w
@@ -158,6 +159,7 @@ module _ (s : ℕ) (Quiet : Entry → Type 0) (Kept : List Act → SpokenFrame �
     act_keeps k speech (act.Control port frame) fit st c = (controls port frame speech (is_failed_at w s port) c, quiet)
     act_keeps k speech (act.Tell told) fit st c = (keeps.tell told acts speech w c, quiet)
     act_keeps k speech (act.Grant pmac amac) fit st c = (grants pmac (host_of w.plan amac) speech (keeps.by (act.Grant pmac amac) acts speech w tt c), quiet)
+    act_keeps k speech (act.Free pmac) fit st c = (keeps.entry acts speech w (Freed pmac) (keeps.freed pmac) (keeps.by (act.Free pmac) acts speech w tt c), quiet)
     act_keeps k speech (act.Make frame) fit st c = makes frame speech c
     act_keeps k speech (act.Redirect old new) fit st c = redirects old new speech c
     act_keeps k speech (act.Pass port frame) fit st c = passes port frame speech (subst (λ n. port < n) (sym st.size) fit.within) (is_new s k w speech late st) c

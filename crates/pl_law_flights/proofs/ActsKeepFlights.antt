@@ -185,6 +185,7 @@ act_journaled place s k w speech late past hand (act.Control port frame) acts fi
     record { hand = hand; past = past; amid = control_amid place s k w speech late past hand port frame fit st a; good = good }
 act_journaled place s k w speech late past hand (act.Tell told) acts fit legal st a good = record { hand = hand; past = past; amid = a; good = good }
 act_journaled place s k w speech late past hand (act.Grant pmac amac) acts fit legal st a good = absurd good
+act_journaled place s k w speech late past hand (act.Free pmac) acts fit legal st a good = absurd good
 act_journaled place s k w Silent late past hand (act.Make frame) acts fit legal st a good = makes place s k w late past acts Silent hand frame (λ i. refl) st a good
 act_journaled place s k w (Waiting id false) late past hand (act.Make frame) acts fit legal st a good = absurd legal
 act_journaled place s k w (Waiting id true) late past hand (act.Make frame) acts fit legal st a good = absurd legal

@@ -1,5 +1,5 @@
 -- Where a switch becomes a placed edge switch, each address that it grants may be granted then.
-use Rattle.std.proofs.Common.{◌≡◌, ℕ, zero, suc, ◌+◌, ◌<◌, ◌&&◌, not, true, false, List, [], None, Some, Result, Ok, Err, get_or, reverse, slice_get, sym, ◌∙◌, ap, subst, arith}
+use Rattle.std.proofs.Common.{◌≡◌, ℕ, zero, suc, ◌+◌, ◌<◌, ◌&&◌, not, true, false, List, [], ◌∷◌, None, Some, Result, Ok, Err, get_or, reverse, slice_get, refl, sym, ◌∙◌, ap, subst, arith}
 use Rattle.std.specs.List.{AllByRecursion, range_with_len}
 use Rattle.std.proofs.lemmas.Bool.{and_parts, and_right, cond-true, cond_both, false≢true, not-true}
 use Rattle.pl_frame.specs.Ethernet.{payload_of}
@@ -11,9 +11,10 @@ use Rattle.pl_layouts.specs.declared.control.ControlError.{ControlError}
 use Rattle.pl_layouts.specs.declared.place.Place.{Place}
 use Rattle.pl_layouts.specs.Placement.{is_known, is_placed}
 use Rattle.pl_node.specs.PortRecords.{port_of, ports_of_switch}
+use Rattle.pl_node.specs.Accounting.{IsShaped, WereGranted}
 use Rattle.pl_node.specs.SwitchViews.{SwitchView}
 use Rattle.pl_steps.specs.Steps.{SwitchStep, rests}
-use Rattle.pl_switch_rule.specs.Granting.{grants_remembered}
+use Rattle.pl_switch_rule.specs.Granting.{freed_at, grants_remembered}
 use Rattle.pl_switch_rule.specs.Levels.{after_message, changes_to, has_become_placed, settles_in, with_pod}
 use Rattle.pl_switch_rule.specs.Messages.{hears_pod, takes_pod}
 use Rattle.pl_switch_rule.specs.Positions.{after_vote}
@@ -49,8 +50,13 @@ unplaced_before v q (Ok (control.Ldm id m)) settles = was_unplaced v.place (afte
 unplaced_before v q (Ok (control.Proposal id p)) settles = absurd (false≢true settles)
 unplaced_before v q (Ok (control.Vote id vote)) settles = was_unplaced v.place (after_vote v q vote).place settles
 
+-- where nothing was granted nothing is free
+none_freed : (vmids : List ℕ) → WereGranted [] vmids → vmids ≡ []
+none_freed [] were = refl
+none_freed (vmid ∷ vmids) were = absurd (let some = were.0.0 in let within = were.0.1 in omega (arith, some, within))
+
 module _ (w new : WorldView) (t : ℕ) (v : SwitchView) (found : slice_get w.switches t ≡ Some v) (size : v.k ≡ w.plan.k)
-    (knows : KnowsHosts w.plan (reverse w.journal) t v) (first : FirstAddresses w new) where
+    (knows : KnowsHosts w.plan (reverse w.journal) t v) (shaped : IsShaped v) (first : FirstAddresses w new) where
   abbrev Grants : SwitchStep → Type 0
   Grants step = slice_get new.switches t ≡ Some step.view → GrantsWell w.plan t step.acts (reverse w.journal)
 
@@ -64,6 +70,8 @@ module _ (w new : WorldView) (t : ℕ) (v : SwitchView) (found : slice_get w.swi
       let ready : (port : ℕ) → port < u.k → IsReady w.plan t past u port = λ port within.
       record {
         empty = ap (λ gs. get_or gs port []) p.grants ∙ knows.empty unsettled port;
+        none_free = ap (λ fs. get_or fs port []) p.freed
+            ∙ none_freed (freed_at v port) (subst (λ gs. WereGranted gs (freed_at v port)) (knows.empty unsettled port) (shaped.free port));
         may = subst (λ (x : Pmac). IsNextAddress past t x) (same_address u after port 1 same)
             (first t v after found there unsettled (ap is_settled same ∙ settled_u) port (subst (λ n. port < n) (p.k ∙ size) within));
         stood = λ h source is. knows.stood port h source (ap (λ ss. get_or ss port None) (sym p.remembered) ∙ is);

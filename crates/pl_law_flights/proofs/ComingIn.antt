@@ -24,14 +24,16 @@ use Rattle.pl_node.specs.declared.acts.Act.{Act}
 use Rattle.pl_node.specs.declared.acts.Act.TheVariants as act
 use Rattle.pl_node.specs.declared.messages.ToManager.TheVariants.{Learned}
 use Rattle.pl_node.specs.declared.switch_records.Grant.{Grant}
+use Rattle.pl_node.specs.Accounting.{WereGranted}
 use Rattle.pl_node.specs.SwitchViews.{SwitchView}
 use Rattle.pl_steps.specs.Steps.{SwitchStep, does, rests, ◌▹◌}
 use Rattle.pl_switch_rule.specs.Forwarding.{Choice}
-use Rattle.pl_switch_rule.specs.Granting.{address_at_port, grant_number, granted, grants_at, grants_next, grants_or_learns, has_no_address, in_use, is_local, is_port_spent, learns_ip, learns_source, new_grant, remembers, sender_ip, with_grants}
+use Rattle.pl_switch_rule.specs.Granting.{address_at_port, freed_at, grant_number, granted, grants_at, grants_new, grants_next, grants_or_learns, has_no_address, in_use, is_local, is_port_spent, learns_ip, learns_source, new_grant, next_vmid, remembers, sender_ip, with_grants, with_next}
 use Rattle.pl_switch_rule.specs.Intake.{comes_from_host, mac_of_pmac, pmac_at, sends_in, takes_in, takes_in_or_spent, with_pmac}
 use Rattle.pl_switch_rule.specs.Levels.{has_become_placed}
 use Rattle.pl_switch_rule.specs.SwitchRule.{IsChoice}
 use Rattle.pl_switch_rule.specs.Telling.{changes_told}
+use Rattle.pl_switch_rule.proofs.Exports.{held_in_use}
 use Rattle.pl_world.specs.Changes.{host_no, switch_no}
 use Rattle.pl_law_flights.specs.OnTheWay.{AddressHistory, CameInPlaced, history_of}
 use Rattle.pl_law_addresses.specs.EdgeAddresses.{is_settled}
@@ -39,11 +41,12 @@ use Rattle.pl_law_flights.specs.Standing.{IsGranted, IsNextAddress, KnowsAddress
 use Rattle.pl_law_flights.proofs.HostFramesCross.{come_in}
 use Rattle.pl_law_flights.proofs.FindingHosts.{LooksAlike, alike_then, host_alike, host_found, host_unsettled, neighbours_alike, with_host}
 use Rattle.pl_law_flights.proofs.GrantingAmid.{sourced}
+use Rattle.pl_law_flights.proofs.GrantsAlike.{AgreesWith, knows_agreed, like_itself}
 use Rattle.pl_law_flights.proofs.Hands.{GoodActs}
 use Rattle.pl_law_flights.proofs.Hands.Hand.{Waits}
 use Rattle.pl_law_flights.proofs.Hosts.{host_unicast, stood_there}
-use Rattle.pl_law_flights.proofs.Learning.{AgreesWith, Learns, knows_agreed, knows_next, learns_of, next_granted, next_in_use}
-use Rattle.pl_law_addresses.proofs.Exports.{granted_here, local_here, used_is}
+use Rattle.pl_law_flights.proofs.Learning.{Learns, knows_next, learns_of, next_granted, next_in_use}
+use Rattle.pl_law_addresses.proofs.Exports.{granted_here, IsInUse, local_here, used_is}
 use Rattle.pl_law_flights.proofs.SilentSteps.{AreSilent, silent_append, silent_changes, silent_good}
 use Rattle.pl_law_flights.proofs.TakingIn.{IsNew, sends_in_good, takes_in_good}
 use Rattle.pl_law_flights.proofs.Granting.{IsGivable}
@@ -79,7 +82,7 @@ placed_alike v u same grants =
     record {
       local = λ y. ap (λ (p : Place). is_known p.level 0 && (is_known p.pod y.pod && is_known p.position y.position)) same;
       pod = ap (λ (p : Place). p.pod) same;
-      some = λ y h is. (h, sym (there y) ∙ is, refl, refl);
+      some = λ y h is. (h, sym (there y) ∙ is, like_itself h);
       none = λ y is. sym (there y) ∙ is;
     }
 
@@ -118,7 +121,7 @@ module _ (plan : Plan) (place : ℕ → Place) (t port : ℕ) (frame : List ℕ)
 module _ (plan : Plan) (place : ℕ → Place) (past : List Entry) (t : ℕ) (v : SwitchView) (port h id : ℕ) (frame : List ℕ) (is_plan : IsPlan plan)
     (places : KnowsPlaces plan.k place) (neighbours : KnowsNeighbours plan place t v) (knows : KnowsAddresses plan (history_of past) t v)
     (hosts : KnowsHosts plan past t v) (choose : Choice) (is : IsChoice choose) (peer : peer_of plan t port ≡ HostPort) (within : port < plan.k)
-    (size : v.k ≡ plan.k) (attachments : edge_port_of plan past h ≡ Some (at_port t port)) (mac : mac_of_host plan h ≡ Some (source_of frame)) (long : 14 ≤ length frame) where
+    (size : v.k ≡ plan.k) (were : WereGranted (grants_at v port) (freed_at v port)) (attachments : edge_port_of plan past h ≡ Some (at_port t port)) (mac : mac_of_host plan h ≡ Some (source_of frame)) (long : 14 ≤ length frame) where
   abbrev IsComing : SwitchStep → Type 0
   IsComing step = Coming plan place (Crossed id (switch_no t) ∷ past) t h (come_in past id h frame t port) step.acts
 
@@ -160,25 +163,28 @@ module _ (plan : Plan) (place : ℕ → Place) (past : List Entry) (t : ℕ) (v 
     knows_u = knows_agreed plan (history_of past) t v (with_host v port) (placed_alike v (with_host v port) alike.place refl) knows
 
     -- its address in use was granted
-    granted_used : (vmid : ℕ) → in_use (grants_at v port) (source_of frame) ≡ Some vmid →
-        (g : Grant) × IsGranted plan (history_of past) t (address_at_port v port vmid) g
+    granted_used : (vmid : ℕ) → in_use (grants_at v port) (source_of frame) ≡ Some vmid → IsInUse (grants_at v port) (source_of frame) vmid
+        × ((g : Grant) × IsGranted plan (history_of past) t (address_at_port v port vmid) g)
     granted_used vmid uses =
         let it = used_is (grants_at v port) (source_of frame) vmid uses in
-        (it.grant, knows.granted_here (address_at_port v port vmid) it.grant (granted_here v (address_at_port v port vmid) (local_here v port vmid settled) ∙ it.found))
+        let x : Pmac = address_at_port v port vmid in
+        (it, (it.grant, knows.granted_here x it.grant (held_in_use v x it.grant (granted_here v x (local_here v port vmid settled) ∙ it.found) it.used)))
 
     used : (vmid : ℕ) → in_use (grants_at v port) (source_of frame) ≡ Some vmid →
         IsComing (Then (learns_ip (with_host v port) (address_at_port (with_host v port) port vmid) (grant_number (grants_at v port) vmid) (sender_ip frame)))
     used vmid uses =
-        let step : SwitchStep = learns_ip (with_host v port) (address_at_port (with_host v port) port vmid) (grant_number (grants_at v port) vmid) (sender_ip frame) in
-        let l : Learns (with_host v port) port step = learns_of (with_host v port) port vmid settled_u room (grant_number (grants_at v port) vmid) refl (sender_ip frame) in
+        let it = granted_used vmid uses in
+        let grant : Grant = it.0.grant in
+        let step : SwitchStep = learns_ip (with_host v port) (address_at_port (with_host v port) port vmid) (Some grant) (sender_ip frame) in
+        let l : Learns (with_host v port) port step = learns_of (with_host v port) port vmid settled_u room grant it.0.found it.0.used (sender_ip frame) in
         let all : LooksAlike v step.view = alike_then v (with_host v port) step.view alike l.alike in
         let same : address_at_port step.view port vmid ≡ address_at_port v port vmid = same_address v step.view port vmid all.place in
-        let it = granted_used vmid uses in
-        plainly step l.silent (rest_good plan place t port frame is_plan places choose is (history_of past) step.view (come_in past id h frame t port) vmid new
+        subst (λ o. IsComing (Then (learns_ip (with_host v port) (address_at_port (with_host v port) port vmid) o (sender_ip frame)))) (sym it.0.found)
+        (plainly step l.silent (rest_good plan place t port frame is_plan places choose is (history_of past) step.view (come_in past id h frame t port) vmid new
         (neighbours_alike plan place t v step.view all neighbours) (knows_agreed plan (history_of past) t (with_host v port) step.view l.agrees knows_u)
         (ap (λ (p : Place). p.level) all.place ∙ level) (ap is_placed all.place ∙ placed) home (l.uses (source_of frame) ∙ uses)
-        (hosts.used port vmid h (source_of frame) settled uses mac ∙ ap Some (sym same)) it.0
-        (subst (λ (x : Pmac). IsGranted plan (history_of past) t x it.0) (sym same) it.1))
+        (hosts.used port vmid h (source_of frame) settled uses mac ∙ ap Some (sym same)) it.1.0
+        (subst (λ (x : Pmac). IsGranted plan (history_of past) t x it.1.0) (sym same) it.1.1)))
 
     -- no address is left
     none_left : in_use (grants_at v port) (source_of frame) ≡ None → is_port_spent v port ≡ true → IsComing (Then (rests (with_host v port)))
@@ -192,44 +198,50 @@ module _ (plan : Plan) (place : ℕ → Place) (past : List Entry) (t : ℕ) (v 
         (hosts.spent port settled spent, tt))
 
     -- the next one is granted
-    next : in_use (grants_at v port) (source_of frame) ≡ None → is_port_spent v port ≡ false →
-        IsComing (Then (grants_next (with_host v port) port (source_of frame) (sender_ip frame)))
-    next none left =
-        let m : ℕ = length (grants_at v port) + 1 in
-        let x : Pmac = address_at_port (with_host v port) port m in
-        let same : x ≡ address_at_port v port m = same_address v (with_host v port) port m alike.place in
-        let was : IsNextAddress past t x = subst (λ (y : Pmac). IsNextAddress past t y) (sym same) (hosts.next port peer within settled left) in
-        let may : IsNextAddress (Crossed id (switch_no t) ∷ past) t x = record { fresh = was.fresh; again = was.again; edge = was.edge; fits = was.fits; own = was.own } in
+    next : (vmid : ℕ) → in_use (grants_at v port) (source_of frame) ≡ None → next_vmid (freed_at v port) (grants_at v port) ≡ Some vmid →
+        IsComing (Then (grants_next (with_host v port) port (source_of frame) (sender_ip frame) (Some vmid)))
+    next vmid none is_next =
+        let u : SwitchView = with_host v port in
+        let x : Pmac = address_at_port u port vmid in
+        let same : x ≡ address_at_port v port vmid = same_address v u port vmid alike.place in
+        let was : IsNextAddress past t x = subst (λ (y : Pmac). IsNextAddress past t y) (sym same) (hosts.next port vmid peer within settled is_next) in
+        let crossed : List Entry = Crossed id (switch_no t) ∷ past in
+        let may : IsNextAddress crossed t x = record { fresh = was.fresh; again = was.again; edge = was.edge; fits = was.fits; own = was.own } in
         let src : Mac = source_of frame in
-        let w : SwitchView = with_grants (with_host v port) port (grants_at v port ++ new_grant src (sender_ip frame) ∷ []) in
+        let given : SwitchView = with_grants u port (with_next (freed_at v port) (grants_at v port) (new_grant src (sender_ip frame))) in
+        let w : SwitchView = (grants_new u port src (sender_ip frame) x).view in
         let e : Entry = Granted x (host_no h) (switch_no t) port in
-        let f2 : Flight = sourced (e ∷ Crossed id (switch_no t) ∷ past) (come_in past id h frame t port) in
+        let f2 : Flight = sourced (e ∷ crossed) (come_in past id h frame t port) in
         let unicast : is_group src ≡ false = host_unicast plan h src is_plan mac in
         let source : f2.source ≡ Some x = cond-true ((h == h) && same_edge_port (at_port t port) (at_port t port)) (Some x) _
         (and_from (h == h) (same_edge_port (at_port t port) (at_port t port)) (eq-eqb h h refl) (same_edge_port_itself (at_port t port))) in
         let all : LooksAlike v w = record { place = alike.place; heard = alike.heard; usable = alike.usable } in
-        let after : KnowsAddresses plan (history_of (e ∷ Crossed id (switch_no t) ∷ past)) t w =
-        knows_next plan (Crossed id (switch_no t) ∷ past) t (with_host v port) port h src (sender_ip frame) settled_u room peer mac (six_src frame long) unicast may knows_u in
+        let known : KnowsAddresses plan (history_of (e ∷ crossed)) t given =
+        knows_next plan crossed t u port vmid h src (sender_ip frame) settled_u room peer mac (six_src frame long) unicast may is_next were knows_u in
+        let after : KnowsAddresses plan (history_of (e ∷ crossed)) t w = knows_agreed plan (history_of (e ∷ crossed)) t given w (placed_alike given w refl refl) known in
         let told = act.Tell (Learned x src (sender_ip frame)) ∷ [] in
-        Grants (changes_told v (with_host v port) ++ []) x src (told ++ (takes_in_or_spent choose port frame w).acts)
-        (append_assoc (changes_told v (with_host v port) ++ []) (act.Grant x src ∷ told) (takes_in_or_spent choose port frame w).acts)
+        Grants (changes_told v u ++ []) x src (told ++ (takes_in_or_spent choose port frame w).acts)
+        (append_assoc (changes_told v u ++ []) (act.Grant x src ∷ told) (takes_in_or_spent choose port frame w).acts)
         silent_found mac
         (record { may = record { fresh = may.fresh; port = refl; stood = stood_there plan past h (at_port t port) attachments; edge = may.edge }; again = may.again })
-        (rest_good plan place t port frame is_plan places choose is (history_of (e ∷ Crossed id (switch_no t) ∷ past)) w f2 m
+        (rest_good plan place t port frame is_plan places choose is (history_of (e ∷ crossed)) w f2 vmid
         (record { of_host = refl; alone = refl; once = refl; beginning = refl; address = refl; long = long })
         (neighbours_alike plan place t v w all neighbours)
         after (ap (λ (p : Place). p.level) alike.place ∙ level) (ap is_placed alike.place ∙ placed) home
-        (next_in_use plan (Crossed id (switch_no t) ∷ past) t (with_host v port) port h src (sender_ip frame) settled_u room peer mac (six_src frame long) unicast may
-        (knows_u) none) source (new_grant src (sender_ip frame))
-        (after.granted_here x (new_grant src (sender_ip frame))
-        (next_granted plan (Crossed id (switch_no t) ∷ past) t (with_host v port) port h src (sender_ip frame) settled_u room peer mac (six_src frame long) unicast may
-        (knows_u))))
+        (next_in_use plan crossed t u port vmid h src (sender_ip frame) settled_u room peer mac (six_src frame long) unicast may is_next were knows_u none) source
+        (new_grant src (sender_ip frame))
+        (known.granted_here x (new_grant src (sender_ip frame))
+        (next_granted plan crossed t u port vmid h src (sender_ip frame) settled_u room peer mac (six_src frame long) unicast may is_next were knows_u)))
+
+    by_next : in_use (grants_at v port) (source_of frame) ≡ None → (o : Option ℕ) → next_vmid (freed_at v port) (grants_at v port) ≡ o →
+        IsComing (Then (grants_next (with_host v port) port (source_of frame) (sender_ip frame) o))
+    by_next none None is_next = none_left none (ap (λ o. not (is_some o)) is_next)
+    by_next none (Some vmid) is_next = next vmid none is_next
 
     by_use : (o : Option ℕ) → in_use (grants_at v port) (source_of frame) ≡ o →
         IsComing (Then (grants_or_learns (with_host v port) port (source_of frame) (sender_ip frame) o))
     by_use (Some vmid) uses = used vmid uses
-    by_use None none = cond_both (is_port_spent v port) (rests (with_host v port)) (grants_next (with_host v port) port (source_of frame) (sender_ip frame))
-        (λ learnt. IsComing (Then learnt)) (λ spent. none_left none spent) (λ left. next none left)
+    by_use None none = by_next none (next_vmid (freed_at v port) (grants_at v port)) refl
 
     placed_comes : IsComing (Then (learns_source (with_host v port) port frame))
     placed_comes =

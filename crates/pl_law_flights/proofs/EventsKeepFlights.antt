@@ -12,8 +12,8 @@ use Rattle.pl_wiring.specs.LiveLinks.{is_live}
 use Rattle.pl_wiring.specs.Peers.{peer_of}
 use Rattle.pl_journal.specs.Places.{are_alike, is_host_port}
 use Rattle.pl_node.specs.declared.messages.ToSwitch.{ToSwitch}
-use Rattle.pl_node.specs.declared.messages.ToSwitch.TheVariants.{Answer, Avoid, Flood, Invalidate, Pod, Tree}
-use Rattle.pl_node.specs.Accounting.{AccountsForFrames}
+use Rattle.pl_node.specs.declared.messages.ToSwitch.TheVariants.{Answer, Avoid, Flood, Invalidate, Pod, Release, Tree}
+use Rattle.pl_node.specs.Accounting.{AccountsForFrames, IsShaped}
 use Rattle.pl_node.specs.HostDuties.{HostsKeepFrames, HostsSendData}
 use Rattle.pl_node.specs.HostInputs.{HostRule}
 use Rattle.pl_node.specs.ManagerDuties.{ManagerRule}
@@ -51,6 +51,7 @@ use Rattle.pl_law_flights.proofs.NoFlightAtFirst.{lost_journaled}
 use Rattle.pl_law_flights.proofs.Failing.{fails_journaled, repaired_journaled}
 use Rattle.pl_law_flights.proofs.BecomingPlaced.{control_well, pod_well, unplaced_before, was_unplaced}
 use Rattle.pl_law_flights.proofs.ControlFrames.{control_journaled, pod_journaled, settles_by}
+use Rattle.pl_law_flights.proofs.Freeing.{frees_journaled}
 use Rattle.pl_law_flights.proofs.FromHosts.{from_host_journaled}
 use Rattle.pl_law_flights.proofs.FromManager.{says_journaled}
 use Rattle.pl_law_flights.proofs.HostTurns.{host_journaled, plays_journaled}
@@ -59,7 +60,7 @@ use Rattle.pl_law_flights.proofs.NoneJustIn.{none_just_in}
 use Rattle.pl_law_flights.proofs.Numbering.{manager_journaled}
 use Rattle.pl_law_flights.proofs.OverLinks.{taken_out}
 use Rattle.pl_law_flights.proofs.Settling.{GrantsWell}
-use Rattle.pl_law_flights.proofs.SilentSteps.{ticks_journaled}
+use Rattle.pl_law_flights.proofs.Probing.{ticks_journaled}
 use Rattle.pl_law_flights.proofs.SwitchTurns.{turn_switches}
 
 dead_before : (b : Bool) → (if are_alike b true then Some AlreadySo else None) ≡ None → b ≡ false
@@ -88,6 +89,9 @@ module _ (manager : ManagerRule) (host : HostRule) (accounts : AccountsForFrames
   size_at : (t : ℕ) (v : SwitchView) → slice_get w.switches t ≡ Some v → v.k ≡ w.plan.k
   size_at t v found = all_found (λ (x : SwitchView). x.k ≡ w.plan.k) w.switches t v found counted.formed.ports
 
+  shaped_at : (t : ℕ) (v : SwitchView) → slice_get w.switches t ≡ Some v → IsShaped v
+  shaped_at t v found = all_found IsShaped w.switches t v found counted.shaped
+
   after_there : (u : WorldView) (t : ℕ) (input : SwitchInput) (turn : SwitchTurn Loose u t input Silent new) → slice_get new.switches t ≡ Some turn.after
   after_there u t input turn =
       ap (λ vs. slice_get vs t) (turn_switches Loose accounts u t input Silent new turn) ∙ set_get u.switches t turn.after (slice_get_within u.switches t turn.before turn.found)
@@ -102,7 +106,7 @@ module _ (manager : ManagerRule) (host : HostRule) (accounts : AccountsForFrames
       let step : switch_step turn.ruled.choose v (Comes q frame) ≡ control_comes v q frame =
       cond-true (is_control frame) (control_comes v q frame) (data_comes turn.ruled.choose v q frame) item.kind in
       subst (λ acts. GrantsWell w.plan t.0 acts (reverse w.journal)) (sym (turn.ruled.steps.done ∙ ap (λ (x : SwitchStep). x.acts) step))
-      (control_well w new t.0 v turn.found (size_at t.0 v turn.found) (hosts.hosts t.0 v turn.found) given.first q frame settles
+      (control_well w new t.0 v turn.found (size_at t.0 v turn.found) (hosts.hosts t.0 v turn.found) (shaped_at t.0 v turn.found) given.first q frame settles
       (after_there (taken_out w s port items) t.0 (Comes q frame) turn ∙ ap Some (turn.ruled.steps.view ∙ ap (λ (x : SwitchStep). x.view) step)))
 
   pod_grants : (t pod : ℕ) (rest : List ToSwitch) (turn : SwitchTurn Loose (record w { from_manager = set w.from_manager t rest }) t (Says (Pod pod)) Silent new) →
@@ -110,7 +114,7 @@ module _ (manager : ManagerRule) (host : HostRule) (accounts : AccountsForFrames
   pod_grants t pod rest turn settles =
       let v : SwitchView = turn.before in
       subst (λ acts. GrantsWell w.plan t acts (reverse w.journal)) (sym turn.ruled.steps.done)
-      (pod_well w new t v turn.found (size_at t v turn.found) (hosts.hosts t v turn.found) given.first pod settles
+      (pod_well w new t v turn.found (size_at t v turn.found) (hosts.hosts t v turn.found) (shaped_at t v turn.found) given.first pod settles
       (after_there (record w { from_manager = set w.from_manager t rest }) t (Says (Pod pod)) turn ∙ ap Some turn.ruled.steps.view))
 
   -- an item comes to the other end
@@ -147,6 +151,7 @@ module _ (manager : ManagerRule) (host : HostRule) (accounts : AccountsForFrames
   from_manager_journaled t (Answer asker asker_ip ip pmac ∷ items) turn = says_journaled w t (Answer asker asker_ip ip pmac) items new accounts counted told on tt turn
   from_manager_journaled t (Flood asker asker_ip ip ∷ items) turn = says_journaled w t (Flood asker asker_ip ip) items new accounts counted told on tt turn
   from_manager_journaled t (Invalidate old to number ip ∷ items) turn = says_journaled w t (Invalidate old to number ip) items new accounts counted told on tt turn
+  from_manager_journaled t (Release address ∷ items) turn = frees_journaled w t address items new accounts counted told on turn
 
   module _ (happens : Event) (fine : refusal_of_event w happens ≡ None) where
     free : (e : Event) → happens ≡ e → refusal_of_event w e ≡ None
@@ -168,7 +173,7 @@ module _ (manager : ManagerRule) (host : HostRule) (accounts : AccountsForFrames
     by_case (Reported s says items is head turn) =
         manager_journaled manager w s.0 says items new counted told turn (given.numbers s.0 says items turn.id turn.after turn.acts head turn.found turn.ruled)
     by_case (Ordered s says items is head turn) = from_manager_journaled s.0 (says ∷ items) turn
-    by_case (Ticked s is turn) = ticks_journaled w s.0 new accounts counted told turn given.more
+    by_case (Ticked s is turn) = ticks_journaled w s.0 new accounts counted told on turn given.more
     by_case (Failed a b link is found failed) =
         let live = live_before (is_live w.links link) (subst (λ (o : Option Link). refusal_of_link w false o ≡ None) found (free (event.Fail a b) is)) in
         subst IsJournaled (sym failed)

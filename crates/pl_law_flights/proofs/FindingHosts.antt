@@ -1,20 +1,15 @@
--- An edge switch finds a host at a port, and learns its source: what it knows of places stays, where it was placed.
+-- An edge switch finds a host at a port: what it knows of places stays, where it was placed.
 use Rattle.std.proofs.Common.{◌≡◌, ℕ, zero, suc, ◌&&◌, nat_lt, true, false, if◌then◌else◌, List, [], ◌∷◌, ◌++◌, Option, None, Some, get_or, set, is_none, refl, sym, ◌∙◌, ap, subst}
-use Rattle.std.proofs.lemmas.Bool.{cond-false, cond_both}
-use Rattle.pl_frame.specs.declared.address.Ip4.{Ip4}
-use Rattle.pl_pmac.specs.declared.pmac.Pmac.{Pmac}
+use Rattle.std.proofs.lemmas.Bool.{cond-false}
 use Rattle.pl_wiring.specs.Plan.{Plan}
 use Rattle.pl_layouts.specs.declared.place.Place.{Place}
 use Rattle.pl_node.specs.declared.neighbour.PortRecord.{PortRecord}
-use Rattle.pl_node.specs.declared.switch_records.Grant.{Grant}
 use Rattle.pl_node.specs.PortRecords.{heard_echo, heard_place, is_id, is_usable, new_port, port_of, with_port}
 use Rattle.pl_node.specs.SwitchViews.{SwitchView}
 use Rattle.pl_steps.specs.Steps.{SwitchStep, rests}
-use Rattle.pl_switch_rule.specs.Granting.{learns_ip}
 use Rattle.pl_switch_rule.specs.Levels.{becomes_edge, finds_host, has_become_placed, pod_told_before}
 use Rattle.pl_switch_rule.specs.Telling.{changes_told}
 use Rattle.pl_law_flights.specs.Standing.{KnowsNeighbours}
-use Rattle.pl_layouts.specs.Equality.{is_ip}
 
 abbrev placed_at : Option ℕ → Option ℕ → Option ℕ → Place
 placed_at level position pod = record { level = level; position = position; pod = pod }
@@ -101,13 +96,3 @@ module _ (v : SwitchView) (port : ℕ) where
       finds_host v port ≡ record { view = with_host; acts = changes_told v with_host ++ [] }
   host_found stays = ap (λ (step : SwitchStep). record { view = step.view; acts = changes_told v with_host ++ step.acts })
       (cond-false (has_become_placed v.place (with_host).place) _ (rests with_host) stays)
-
--- a source that is learnt changes grants alone
-abbrev Alike : SwitchView → SwitchStep → Type 0
-Alike v step = LooksAlike v step.view
-
-ip_alike : (v : SwitchView) (x : Pmac) (o : Option Grant) (ip : Option Ip4) → Alike v (learns_ip v x o ip)
-ip_alike v x None ip = record { place = refl; heard = λ q. refl; usable = λ q. refl }
-ip_alike v x (Some grant) None = record { place = refl; heard = λ q. refl; usable = λ q. refl }
-ip_alike v x (Some grant) (Some ip) = cond_both (is_ip grant.ip ip) (rests v) _ (Alike v)
-    (λ known. record { place = refl; heard = λ q. refl; usable = λ q. refl }) (λ new. record { place = refl; heard = λ q. refl; usable = λ q. refl })

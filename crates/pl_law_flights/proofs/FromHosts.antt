@@ -10,7 +10,7 @@ use Rattle.pl_journal.specs.declared.entry.Entry.{Entry}
 use Rattle.pl_journal.specs.declared.entry.Entry.TheVariants.{Crossed, Granted}
 use Rattle.pl_journal.specs.Flights.{Flight, has_just_come_in, is_empty, trail}
 use Rattle.pl_journal.specs.Places.{at_port, edge_port_of}
-use Rattle.pl_node.specs.Accounting.{AccountsForFrames}
+use Rattle.pl_node.specs.Accounting.{AccountsForFrames, IsShaped}
 use Rattle.pl_node.specs.PortRecords.{is_open_to_hosts, port_of}
 use Rattle.pl_node.specs.SwitchInputs.SwitchInput.{Comes}
 use Rattle.pl_node.specs.SwitchViews.{SwitchView}
@@ -77,6 +77,7 @@ module _ (w : WorldView) (counted : IsCounted w) (told : IsJournaled w) (on : St
       (subst (λ l. AllByRecursion IsDataItem l) head (all_at (AllByRecursion IsDataItem) w.from_hosts h [] tt so.balance.host_items)).0 in
       let v : SwitchView = turn.before in
       let size : v.k ≡ w.plan.k = all_found (λ (x : SwitchView). x.k ≡ w.plan.k) w.switches s v turn.found so.rest.ports in
+      let shaped : IsShaped v = all_found IsShaped w.switches s v turn.found so.rest.shaped in
       let there = hosts.at_ports h attachment found in
       let knows = hosts.hosts s v turn.found in
       let loose = turn.ruled in
@@ -90,7 +91,7 @@ module _ (w : WorldView) (counted : IsCounted w) (told : IsJournaled w) (on : St
       let coming : Coming w.plan (place_in w.switches) now s h (come_in past id h frame s attachment.port) turn.acts =
       subst (λ a. Coming w.plan (place_in w.switches) now s h (come_in past id h frame s attachment.port) a) (sym acts)
       (comes_good w.plan (place_in w.switches) past s v attachment.port h id frame so.rest.is_plan on.places (on.neighbours s v turn.found) (on.addresses s v turn.found)
-      knows loose.choose loose.is_choice there.0 there.1 size at (hosts.own h id frame waits) item.whole.low) in
+      knows loose.choose loose.is_choice there.0 there.1 size (shaped.free attachment.port) at (hosts.own h id frame waits) item.whole.low) in
       let owes : Owes w1 (λ i. one id i + 0) =
       noted_owes (heard_item (taken_from w h items) h (Data id frame)) (λ i. times_in i (Data id frame ∷ [])) (λ i. one id i + 0) (Crossed id (switch_no s) ∷ []) refl
       (λ i. omega (arith, times_in-data i id frame []))

@@ -1,5 +1,6 @@
--- A message of the manager comes at a switch; one that gives a pod is not among them, since addresses may be granted then.
-use Rattle.std.proofs.Common.{◌≡◌, ℕ, not, true, false, List, [], ◌∷◌, ◌++◌, Option, None, Some, is_some, reverse, set, slice_get, refl, sym, ◌∙◌, ap, subst, inl, inr}
+-- A message of the manager comes at a switch; one that gives a pod is not among them, since addresses may be granted then, nor one that releases an
+-- address.
+use Rattle.std.proofs.Common.{◌≡◌, ℕ, not, nat_lt, true, false, List, [], ◌∷◌, ◌++◌, Option, None, Some, is_some, reverse, set, slice_get, refl, sym, ◌∙◌, ap, subst, inl, inr}
 use Rattle.std.specs.List.{filter}
 use Rattle.std.proofs.Math.ListN.{length-set}
 use Rattle.std.proofs.lemmas.Bool.{cases_eq, cond_both}
@@ -16,8 +17,8 @@ use Rattle.pl_journal.specs.Flights.{Flight}
 use Rattle.pl_node.specs.declared.acts.Act.{Act}
 use Rattle.pl_node.specs.declared.acts.Act.TheVariants as act
 use Rattle.pl_node.specs.declared.messages.ToSwitch.{ToSwitch}
-use Rattle.pl_node.specs.declared.messages.ToSwitch.TheVariants.{Answer, Avoid, Flood, Invalidate, Pod, Tree}
-use Rattle.pl_node.specs.AddressUses.{is_in_use}
+use Rattle.pl_node.specs.declared.messages.ToSwitch.TheVariants.{Answer, Avoid, Flood, Invalidate, Pod, Release, Tree}
+use Rattle.pl_node.specs.AddressUses.{is_in_use, standing_trap}
 use Rattle.pl_node.specs.declared.switch_records.Grant.{Grant}
 use Rattle.pl_node.specs.declared.switch_records.Member.{Member}
 use Rattle.pl_node.specs.declared.trap.Trap.{Trap}
@@ -27,9 +28,9 @@ use Rattle.pl_node.specs.SwitchViews.{SwitchView}
 use Rattle.pl_steps.specs.Steps.{SwitchStep, rests}
 use Rattle.pl_switch_rule.specs.Delivering.{makes}
 use Rattle.pl_switch_rule.specs.Forwarding.{Choice}
-use Rattle.pl_switch_rule.specs.Granting.{granted, is_granted}
+use Rattle.pl_switch_rule.specs.Granting.{granted, held_here, is_granted}
 use Rattle.pl_switch_rule.specs.Intake.{groups_told, is_member}
-use Rattle.pl_switch_rule.specs.Messages.{answer_frame, flood_frame, floods, forgets_members, hears_manager, invalidates, probes_at, sets_trap}
+use Rattle.pl_switch_rule.specs.Messages.{answer_frame, flood_frame, floods, forgets_members, hears_manager, invalidates, probes_at, sets_trap, sets_trap_over, with_trap}
 use Rattle.pl_switch_rule.specs.SwitchRule.{IsChoice, Loose}
 use Rattle.pl_world.specs.declared.spoken_frame.SpokenFrame.TheVariants.{Silent}
 use Rattle.pl_world.specs.Flying.{IsCounted}
@@ -57,6 +58,7 @@ module _ (plan : Plan) (place later : ℕ → Place) (more : IsMore place later)
   good_grown (act.Control port frame ∷ acts) hand good = good_grown acts hand good
   good_grown (act.Tell told ∷ acts) hand good = good_grown acts hand good
   good_grown (act.Grant pmac amac ∷ acts) hand good = good
+  good_grown (act.Free pmac ∷ acts) hand good = good
   good_grown (act.Make frame ∷ acts) hand good = λ root. good_grown acts (Waits (made_here root s frame) false) (good root)
   good_grown (act.Redirect old new ∷ acts) Empty good = good
   good_grown (act.Redirect old new ∷ acts) (Waits f again) good = (good.0, good_grown acts (Waits (turned s f again new) true) good.1)
@@ -90,10 +92,11 @@ same_more switches t before after found same = record {
       | inr other ↦ ap known_place (set_get_other switches t s after other)
     ]
 
--- a message that gives no pod
-abbrev pub GivesNoPod : ToSwitch → Type 0
-GivesNoPod (Pod pod) = ⊥
-GivesNoPod says = Unit {0}
+-- a message that gives no pod and releases no address
+abbrev pub GivesNothing : ToSwitch → Type 0
+GivesNothing (Pod pod) = ⊥
+GivesNothing (Release address) = ⊥
+GivesNothing says = Unit {0}
 
 pub silent_groups : (old new : List Member) → AreSilent (groups_told old new)
 silent_groups old new = groups_acts IsSilent old new (λ group other. tt)
@@ -108,11 +111,16 @@ module _ (plan : Plan) (place : ℕ → Place) (history : AddressHistory) (t : �
     pub good : GoodActs plan place history t step.acts Empty
     pub stays : step.view.place ≡ v.place
 
-  probed : (old : Pmac) (grant : Grant) → granted v old ≡ Some grant → (o : Option Ip4) (u : SwitchView) → GoodActs plan place history t (probes_at old grant.amac o u).acts Empty
+  probed : (old : Pmac) (grant : Grant) → held_here v old ≡ Some grant → (o : Option Ip4) (u : SwitchView) → GoodActs plan place history t (probes_at old grant.amac o u).acts Empty
   probed old grant found None u = tt
-  probed old grant found (Some ip) u = probe_good plan place history t v is_plan places neighbours knows choose is old ip grant found
+  probed old grant found (Some ip) u = probe_good plan place history t v knows old ip grant found [] (λ hand. tt) Empty
 
-  invalidated : (old : Pmac) (trap : Trap) (o : Option Grant) → granted v old ≡ o → IsHeard (invalidates v old trap o)
+  set_stays : (old : Pmac) (grant : Grant) (trap : Trap) (o : Option Trap) → (sets_trap_over o v old grant trap).place ≡ v.place
+  set_stays old grant trap None = refl
+  set_stays old grant trap (Some standing) =
+      cond_both (nat_lt trap.number standing.number) v (with_trap v old grant trap) (λ (u : SwitchView). u.place ≡ v.place) (λ smaller. refl) (λ larger. refl)
+
+  invalidated : (old : Pmac) (trap : Trap) (o : Option Grant) → held_here v old ≡ o → IsHeard (invalidates v old trap o)
   invalidated old trap None found = record { good = tt; stays = refl }
   invalidated old trap (Some grant) found =
       let u : SwitchView = sets_trap v old grant trap in
@@ -124,10 +132,10 @@ module _ (plan : Plan) (place : ℕ → Place) (history : AddressHistory) (t : �
         good = cond_both (is_in_use grant.held) (probes_at old grant.amac grant.ip w) (rests w) P
             (λ used. silent_good plan place history t (forgets_members old.port grant.amac u).acts _ Empty silent (probed old grant found grant.ip w))
             (λ unused. silent_good plan place history t (forgets_members old.port grant.amac u).acts [] Empty silent tt);
-        stays = ap (λ (x : SwitchView). x.place) (probes_stay old grant w);
+        stays = ap (λ (x : SwitchView). x.place) (probes_stay old grant w) ∙ set_stays old grant trap (standing_trap grant.held);
       }
 
-  pub heard : (says : ToSwitch) → GivesNoPod says → IsHeard (hears_manager choose v says)
+  pub heard : (says : ToSwitch) → GivesNothing says → IsHeard (hears_manager choose v says)
   heard (Pod pod) none = absurd none
   heard (Avoid list) none = record { good = tt; stays = refl }
   heard (Tree group part) none = record { good = tt; stays = refl }
@@ -144,11 +152,12 @@ module _ (plan : Plan) (place : ℕ → Place) (history : AddressHistory) (t : �
       let grant = some_granted (granted v asker) here in
       record { good = flood_good plan place history t v is_plan places neighbours knows choose is asker asker_ip ip grant.0 grant.1; stays = refl })
       (λ other. record { good = tt; stays = refl })
-  heard (Invalidate old new number ip) none = invalidated old (record { new = new; number = number; ip = ip }) (granted v old) refl
+  heard (Invalidate old new number ip) none = invalidated old (record { new = new; number = number; ip = ip }) (held_here v old) refl
+  heard (Release address) none = absurd none
 
--- a message of the manager that gives no pod
+-- a message of the manager that gives no pod and releases no address
 pub says_journaled : (w : WorldView) (t : ℕ) (says : ToSwitch) (rest : List ToSwitch) (new : WorldView) → AccountsForFrames Loose → IsCounted w → IsJournaled w → StandsOn w →
-    GivesNoPod says → SwitchTurn Loose (record w { from_manager = set w.from_manager t rest }) t (Says says) Silent new → IsJournaled new
+    GivesNothing says → SwitchTurn Loose (record w { from_manager = set w.from_manager t rest }) t (Says says) Silent new → IsJournaled new
 says_journaled w t says rest new accounts counted told on none turn =
     let so = sound w counted in
     let history : AddressHistory = history_of (reverse w.journal) in

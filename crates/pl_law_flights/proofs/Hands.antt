@@ -101,12 +101,13 @@ DropsWell next history cause Empty = ⊥
 DropsWell next history cause (Waits f again) = MayEnd history f cause × next Empty
 DropsWell next history cause (Spreads f) = ⊥
 
--- What the acts of switch s may be, by the frame in hand. A grant is not among them.
+-- What the acts of switch s may be, by the frame in hand. A grant is not among them, nor that an address is freed.
 abbrev pub GoodActs : Plan → (ℕ → Place) → AddressHistory → ℕ → List Act → Hand → Type 0
 GoodActs plan place history s [] hand = Unit {0}
 GoodActs plan place history s (act.Control port frame ∷ acts) hand = GoodActs plan place history s acts hand
 GoodActs plan place history s (act.Tell told ∷ acts) hand = GoodActs plan place history s acts hand
 GoodActs plan place history s (act.Grant pmac amac ∷ acts) hand = ⊥
+GoodActs plan place history s (act.Free pmac ∷ acts) hand = ⊥
 GoodActs plan place history s (act.Make frame ∷ acts) hand = (root : ℕ) → GoodActs plan place history s acts (Waits (made_here root s frame) false)
 GoodActs plan place history s (act.Redirect old new ∷ acts) hand = TurnsWell (GoodActs plan place history s acts) history s old new hand
 GoodActs plan place history s (act.Pass port frame ∷ acts) hand = PassesWell (GoodActs plan place history s acts) plan place history s port frame hand

@@ -27,7 +27,7 @@ use Rattle.pl_node.specs.SwitchViews.{SwitchView}
 use Rattle.pl_switch_rule.specs.declared.came.Came.TheVariants.{FromHost}
 use Rattle.pl_switch_rule.specs.Delivering.{delivers, delivers_to, destination, goes_on}
 use Rattle.pl_switch_rule.specs.Forwarding.{Choice, candidates, candidates_by, forwards, is_candidate, leads_from_edge, leads_up, leaves_by}
-use Rattle.pl_switch_rule.specs.Granting.{granted, is_local}
+use Rattle.pl_switch_rule.specs.Granting.{held_here, is_local}
 use Rattle.pl_switch_rule.specs.SwitchRule.{IsChoice}
 use Rattle.pl_switch_rule.proofs.Exports.{candidate_usable}
 use Rattle.pl_law_flights.specs.OnTheWay.{AddressHistory, CameInPlaced, IsLeaving, WillBeUnaltered}
@@ -65,7 +65,7 @@ module _ (plan : Plan) (place : ℕ → Place) (history : AddressHistory) (t : �
     (then_good : (hand : Hand) → GoodActs plan place history t rest hand) where
   -- it goes out to the host that has the address
   pub delivers_good : (f : Flight) (again : Bool) (frame : List ℕ) (o : Option Grant) → IsHere place t f frame → is_local v (destination frame) ≡ true →
-      granted v (destination frame) ≡ o → GoodActs plan place history t ((delivers_to v (destination frame) frame o).acts ++ rest) (Waits f again)
+      held_here v (destination frame) ≡ o → GoodActs plan place history t ((delivers_to v (destination frame) frame o).acts ++ rest) (Waits f again)
   delivers_good f again frame None here own found =
       let fits : PmacFits (destination frame) = local_fits (mac_number (destination_of frame)) (λ n is. knows.pods n is) own in
       (ap history.hold (here.address ∙ sym (number_of_destination frame)) ∙ knows.not_granted (destination frame) fits own found, then_good Empty)
@@ -181,5 +181,5 @@ module _ (plan : Plan) (place : ℕ → Place) (history : AddressHistory) (t : �
     goes_on_good choose is f again frame here alone level placed =
         cond_both (is_local v (destination frame)) (delivers v frame) (forwards choose v (Some FromHost) frame)
         (λ step. GoodActs plan place history t (step.acts ++ rest) (Waits f again))
-        (λ own. delivers_good plan place history t v knows rest then_good f again frame (granted v (destination frame)) here own refl)
+        (λ own. delivers_good plan place history t v knows rest then_good f again frame (held_here v (destination frame)) here own refl)
         (λ away. leaves_then choose is f again frame here alone level placed away _ refl)

@@ -19,6 +19,7 @@ pub mod Failing
 pub mod NoFlightAtFirst
 pub mod HostTurns
 pub mod Arriving
+pub mod GrantsAlike
 pub mod HomeActs
 pub mod Redirects
 pub mod AtHome
@@ -27,16 +28,19 @@ pub mod SilentSteps
 pub mod Numbering
 pub mod ManagerKeepsFlights
 pub mod FromManager
+pub mod Probing
 pub mod EventsKeepFlights
 pub mod ControlFrames
 pub mod Granting
 pub mod Settling
+pub mod Freeing
 pub mod HostFramesCross
 pub mod GrantingAmid
 pub mod NoneJustIn
 pub mod Rewriting
 pub mod TakingIn
 pub mod FindingHosts
+pub mod NextGrants
 pub mod Learning
 pub mod ComingIn
 pub mod Hosts

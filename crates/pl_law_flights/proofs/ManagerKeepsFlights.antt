@@ -25,6 +25,7 @@ use Rattle.pl_journal.specs.declared.cause.Cause.TheVariants as cause
 use Rattle.pl_journal.specs.Causes.{is_routed}
 use Rattle.pl_journal.specs.Flights.{Flight, first_of, level_of}
 use Rattle.pl_journal.specs.Places.{at_port, is_host_port}
+use Rattle.pl_node.specs.declared.acts.Act.{Act}
 use Rattle.pl_node.specs.declared.acts.Act.TheVariants as act
 use Rattle.pl_node.specs.declared.switch_records.Grant.{Grant}
 use Rattle.pl_node.specs.PortRecords.{is_usable, ports_of_switch}
@@ -32,18 +33,18 @@ use Rattle.pl_node.specs.SwitchViews.{SwitchView}
 use Rattle.pl_switch_rule.specs.declared.came.Came.TheVariants.{FromHost}
 use Rattle.pl_switch_rule.specs.Delivering.{makes}
 use Rattle.pl_switch_rule.specs.Forwarding.{Choice}
-use Rattle.pl_switch_rule.specs.Granting.{grant_number, granted, grants_at, is_local}
+use Rattle.pl_switch_rule.specs.Granting.{grant_number, granted, grants_at, held_here, is_local}
 use Rattle.pl_switch_rule.specs.GroupForwarding.{destination_group, forwards_group, passes_or_drops}
 use Rattle.pl_switch_rule.specs.Messages.{answer_frame, flood_frame, floods, probe_frame}
 use Rattle.pl_switch_rule.specs.SwitchRule.{IsChoice}
 use Rattle.pl_switch_rule.proofs.Exports.{arp_frame_made, destination_of-arp_frame}
 use Rattle.pl_law_flights.specs.OnTheWay.{AddressHistory, CameInPlaced, IsForMany, IsLeaving}
-use Rattle.pl_law_flights.specs.Standing.{IsGranted, KnowsAddresses, KnowsNeighbours, KnowsPlaces}
+use Rattle.pl_law_flights.specs.Standing.{IsGranted, KnowsAddresses, KnowsNeighbours, KnowsPlaces, WasGranted}
 use Rattle.pl_law_flights.proofs.AtHome.{begins_good, is_arp-arp_frame, local_is_placed}
 use Rattle.pl_law_flights.specs.Routes.{levels}
 use Rattle.pl_law_flights.proofs.ForwardActs.{routed_group}
 use Rattle.pl_law_flights.proofs.GroupLegs.{all_filtered, first_alone, first_ways}
-use Rattle.pl_law_flights.proofs.Hands.{GoodActs, MayEnd, MayLeave, made_here}
+use Rattle.pl_law_flights.proofs.Hands.{GoodActs, Hand, MayEnd, MayLeave, made_here}
 use Rattle.pl_law_flights.proofs.Hands.Hand.{Empty, Spreads, Waits}
 use Rattle.pl_law_flights.proofs.PmacNumbers.{number_of_mac}
 
@@ -119,14 +120,14 @@ module _ (plan : Plan) (place : ℕ → Place) (history : AddressHistory) (t : �
   answer_good asker asker_ip ip pmac grant found = λ root.
       let own = local_is_placed v asker (granted_is_local v asker grant found) in
       let one : is_group (destination_of (answer_frame asker asker_ip ip pmac)) ≡ false =
-      ap is_group (destination_of-arp_frame (mac_of asker) _ refl) ∙ (knows.granted_here asker grant found).own in
+      ap is_group (destination_of-arp_frame (mac_of asker) _ refl) ∙ (knows.granted_there asker grant found).own in
       begins_good plan place history t v is_plan places neighbours knows choose is own.0 own.1 root (answer_frame asker asker_ip ip pmac) one
       ((arp_frame_made (mac_of asker) _ refl refl refl).whole.low) (is_arp-arp_frame (mac_of asker) _ refl refl)
 
   -- the request to all hosts
   pub flood_good : (asker : Pmac) (asker_ip ip : Ip4) (grant : Grant) → granted v asker ≡ Some grant → GoodActs plan place history t (floods v (flood_frame asker asker_ip ip)).acts Empty
   flood_good asker asker_ip ip grant found = λ root.
-      let x : IsGranted plan history t asker grant = knows.granted_here asker grant found in
+      let x : WasGranted history t asker = knows.granted_there asker grant found in
       let to : destination_of (flood_frame asker asker_ip ip) ≡ broadcast = destination_of-arp_frame broadcast _ refl in
       spreads_good plan place history t v (made_here root t (flood_frame asker asker_ip ip)) (flood_frame asker asker_ip ip)
       (record {
@@ -148,10 +149,11 @@ module _ (plan : Plan) (place : ℕ → Place) (history : AddressHistory) (t : �
       }) is_plan neighbours
       (places.level t 0 (subst (λ (w : Place). w.level ≡ Some 0) neighbours.own (local_is_placed v asker (granted_is_local v asker grant found)).0)) false
 
-  -- the request to a host that may still stand at an old address
-  pub probe_good : (old : Pmac) (ip : Ip4) (grant : Grant) → granted v old ≡ Some grant →
-      GoodActs plan place history t (act.Make (probe_frame old ip) ∷ act.Pass old.port (arriving (probe_frame old ip) None (Some grant.amac)) ∷ []) Empty
-  probe_good old ip grant found = λ root.
+module _ (plan : Plan) (place : ℕ → Place) (history : AddressHistory) (t : ℕ) (v : SwitchView) (knows : KnowsAddresses plan history t v) where
+  -- the request to a host that may still stand at an old address, or use its address
+  pub probe_good : (old : Pmac) (ip : Ip4) (grant : Grant) → held_here v old ≡ Some grant → (rest : List Act) → ((hand : Hand) → GoodActs plan place history t rest hand) →
+      (hand : Hand) → GoodActs plan place history t (act.Make (probe_frame old ip) ∷ act.Pass old.port (arriving (probe_frame old ip) None (Some grant.amac)) ∷ rest) hand
+  probe_good old ip grant found rest then_good hand = λ root.
       let probe : List ℕ = probe_frame old ip in
       let f : Flight = made_here root t probe in
       let x : IsGranted plan history t old grant = knows.granted_here old grant found in
@@ -178,4 +180,4 @@ module _ (plan : Plan) (place : ℕ → Place) (history : AddressHistory) (t : �
           unaltered = ap (λ o. arriving probe None o) (sym x.mac);
         };
       } in
-      (subst (λ p. MayLeave plan place history t old.port p f (arriving probe None (Some grant.amac))) (sym x.for_hosts) leaves, tt)
+      (subst (λ p. MayLeave plan place history t old.port p f (arriving probe None (Some grant.amac))) (sym x.for_hosts) leaves, then_good (Spreads f))

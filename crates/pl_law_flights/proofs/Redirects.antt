@@ -17,15 +17,15 @@ use Rattle.pl_layouts.proofs.Exports.{arriving_readable, arriving_unreadable, pa
 use Rattle.pl_journal.specs.Flights.{Flight, first_of}
 use Rattle.pl_journal.specs.Lossy.{UnalteredFrom}
 use Rattle.pl_node.specs.declared.acts.Act.{Act}
-use Rattle.pl_node.specs.declared.switch_records.Grant.{Grant}
 use Rattle.pl_node.specs.declared.trap.Trap.{Trap}
 use Rattle.pl_node.specs.SwitchViews.{SwitchView}
-use Rattle.pl_switch_rule.specs.Delivering.{addresses, comes_home, delivers_or_redirects, destination, goes_on, grant_trap, if_newer, last_on, last_trap, redirects, redirects_on, trap_for}
+use Rattle.pl_switch_rule.specs.Delivering.{addresses, comes_home, delivers_or_redirects, destination, goes_on, if_newer, last_on, last_trap, redirects, redirects_on, trap_for}
 use Rattle.pl_switch_rule.specs.Forwarding.{Choice}
-use Rattle.pl_switch_rule.specs.Granting.{granted, is_local}
+use Rattle.pl_switch_rule.specs.Granting.{held_here, is_local}
 use Rattle.pl_switch_rule.specs.SwitchRule.{IsChoice}
 use Rattle.pl_law_flights.specs.OnTheWay.{AddressHistory, CameInPlaced, WillBeUnaltered}
 use Rattle.pl_law_flights.specs.Standing.{KnowsAddresses, KnowsNeighbours, KnowsPlaces, TrapLeadsOn}
+use Rattle.pl_law_flights.proofs.GrantsAlike.{trapped_here}
 use Rattle.pl_law_flights.proofs.Hands.{GoodActs, Hand, MayTurn, turned}
 use Rattle.pl_law_flights.proofs.Hands.Hand.{Waits}
 use Rattle.pl_law_flights.proofs.HomeActs.{IsHere, delivers_good, destination_is, goes_on_good, number_of_destination}
@@ -75,10 +75,6 @@ newer_found trap next (Some other) is = elim (cases_Bool (nat_lt trap.number oth
   | inr older ↦ (let none : if_newer trap (Some other) ≡ None = cond-false (nat_lt trap.number other.number) (Some other) None older in absurd (cc))
 ]
 
-grant_there : (o : Option Grant) (trap : Trap) → grant_trap o ≡ Some trap → (grant : Grant) × (o ≡ Some grant)
-grant_there None trap is = absurd (cc)
-grant_there (Some grant) trap is = (grant, refl)
-
 module _ (plan : Plan) (place : ℕ → Place) (history : AddressHistory) (t : ℕ) (v : SwitchView) (is_plan : IsPlan plan) (places : KnowsPlaces plan.k place)
     (neighbours : KnowsNeighbours plan place t v) (rest : List Act) (then_good : (hand : Hand) → GoodActs plan place history t rest hand)
     (knows : KnowsAddresses plan history t v) (choose : Choice) (is : IsChoice choose) (level : v.place.level ≡ Some 0) (placed : is_placed v.place ≡ true)
@@ -117,7 +113,7 @@ module _ (plan : Plan) (place : ℕ → Place) (history : AddressHistory) (t : �
   turns_well : (x : Pmac) (f : Flight) (next : Trap) → f.address ≡ pmac_number x → first_of f.leg ≡ Some t → trap_for v x ≡ Some next → MayTurn history t f x next.new
   turns_well x f next present reached trapped =
       let leads : TrapLeadsOn history x next = knows.trapped x next trapped in
-      let grant = grant_there (granted v x) next trapped in
+      let grant = trapped_here v x next trapped in
       let here = knows.granted_here x grant.0 grant.1 in
       record { present = present; same_host = leads.same_host; host = here.host; held = here.held; newer = leads.newer; port = x.port; here = here.there; reached = reached }
 
@@ -164,7 +160,7 @@ module _ (plan : Plan) (place : ℕ → Place) (history : AddressHistory) (t : �
   home_good f again here own = by_trap (trap_for v (destination frame)) refl
     where
       by_trap : (o : Option Trap) → trap_for v (destination frame) ≡ o → GoodActs plan place history t ((delivers_or_redirects choose v frame o).acts ++ rest) (Waits f again)
-      by_trap None found = delivers_good plan place history t v knows rest then_good f again frame (granted v (destination frame)) here own refl
+      by_trap None found = delivers_good plan place history t v knows rest then_good f again frame (held_here v (destination frame)) here own refl
       by_trap (Some trap) found = (
         turns_well (destination frame) f trap (here.address ∙ sym (number_of_destination frame)) here.reached found,
         chain (addresses v) trap (turned t f again trap.new) (turning_on f again (destination frame) trap here.last here.began here.unaltered here.home here.sender found),

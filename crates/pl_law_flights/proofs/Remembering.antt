@@ -1,5 +1,5 @@
 -- A switch that becomes a placed edge switch may grant what it grants to the sources that it remembers.
-use Rattle.std.proofs.Common.{◌≡◌, ◌≢◌, ℕ, zero, suc, ◌+◌, ◌<◌, ◌==◌, not, nat_lt, true, false, List, [], ◌∷◌, ◌++◌, length, Option, None, Some, set, refl, sym, ◌∙◌, ap, ap₂, subst, arith, get_or-set_other}
+use Rattle.std.proofs.Common.{◌≡◌, ◌≢◌, ℕ, zero, suc, ◌+◌, ◌<◌, ◌==◌, true, false, List, [], ◌∷◌, ◌++◌, Option, None, Some, set, refl, sym, ◌∙◌, ap, ap₂, subst, arith, get_or-set_other}
 use Rattle.std.specs.List.{AllByRecursion, range_with_len}
 use Rattle.std.proofs.lemmas.Bool.{and_from, cond-false, eq-eqb, ne_eqb, or_from}
 use Rattle.pl_pmac.specs.declared.pmac.Pmac.{Pmac}
@@ -14,8 +14,8 @@ use Rattle.pl_node.specs.declared.acts.Act.TheVariants as act
 use Rattle.pl_node.specs.declared.switch_records.Grant.{Grant}
 use Rattle.pl_node.specs.declared.switch_records.Source.{Source}
 use Rattle.pl_node.specs.SwitchViews.{SwitchView}
-use Rattle.pl_steps.specs.Steps.{SwitchStep, rests}
-use Rattle.pl_switch_rule.specs.Granting.{address_at_port, grants_at, grants_next, grants_or_learns, grants_remembered, grants_source, in_use, is_port_spent, new_grant, remembered_at}
+use Rattle.pl_steps.specs.Steps.{SwitchStep}
+use Rattle.pl_switch_rule.specs.Granting.{address_at_port, all_but_first, freed_at, grants_at, grants_new, grants_next, grants_or_learns, grants_remembered, grants_source, in_use, new_grant, next_vmid, remembered_at, with_next}
 use Rattle.pl_world.specs.Changes.{host_no, host_of, switch_no}
 use Rattle.pl_law_flights.specs.Standing.{IsNextAddress}
 use Rattle.pl_law_flights.proofs.Settling.{GrantsFor, GrantsWell}
@@ -45,24 +45,32 @@ module _ (plan : Plan) (t : ℕ) where
   -- a port where nothing was granted, and the first address may be
   pub record IsReady (past : List Entry) (v : SwitchView) (port : ℕ) : Type 0 where
     pub empty : grants_at v port ≡ []
+    pub none_free : freed_at v port ≡ []
     pub may : IsNextAddress past t (address_at_port v port 1)
     pub stood : (h : ℕ) (source : Source) → remembered_at v port ≡ Some source → host_of plan source.amac ≡ Some h → has_stood plan past h (at_port t port) ≡ true
 
   -- another port stays so
-  module _ (past : List Entry) (v : SwitchView) (p : ℕ) (grants : List Grant) where
-    ready_after : (q : ℕ) → q ≢ p → IsReady past v q → IsReady past (record v { grants = set v.grants p grants; remembered = set v.remembered p None }) q
+  module _ (past : List Entry) (v : SwitchView) (p : ℕ) (grants : List Grant) (freed : List ℕ) (used : List Pmac) where
+    ready_after : (q : ℕ) → q ≢ p → IsReady past v q → IsReady past (record v {
+      grants = set v.grants p grants;
+      freed = set v.freed p freed;
+      used = used;
+      remembered = set v.remembered p None;
+    }) q
     ready_after q other r = record {
       empty = get_or-set_other v.grants p q grants [] other ∙ r.empty;
+      none_free = get_or-set_other v.freed p q freed [] other ∙ r.none_free;
       may = r.may;
       stood = λ h source is. r.stood h source (sym (get_or-set_other v.remembered p q None None other) ∙ is);
     }
 
-    ready_forgotten : (q : ℕ) → q ≢ p → IsReady past v q → IsReady past (record v { remembered = set v.remembered p None }) q
-    ready_forgotten q other r = record {
-      empty = r.empty;
-      may = r.may;
-      stood = λ h source is. r.stood h source (sym (get_or-set_other v.remembered p q None None other) ∙ is);
-    }
+  ready_forgotten : (past : List Entry) (v : SwitchView) (p q : ℕ) → q ≢ p → IsReady past v q → IsReady past (record v { remembered = set v.remembered p None }) q
+  ready_forgotten past v p q other r = record {
+    empty = r.empty;
+    none_free = r.none_free;
+    may = r.may;
+    stood = λ h source is. r.stood h source (sym (get_or-set_other v.remembered p q None None other) ∙ is);
+  }
 
   -- and so once an address was granted at the port
   ready_granted : (past : List Entry) (v : SwitchView) (p g q : ℕ) → q ≢ p → IsNextAddress past t (address_at_port v p 1) → IsReady past v q →
@@ -76,6 +84,7 @@ module _ (plan : Plan) (t : ℕ) where
       ap₂ are_alike (and_from (y.pod == x.pod) (y.position == x.position) (eq-eqb y.pod x.pod refl) (eq-eqb y.position x.position refl)) (eq-eqb t t refl) in
       record {
         empty = r.empty;
+        none_free = r.none_free;
         may = record {
           fresh = or_from (pmac_number x == pmac_number y) (is_live past (pmac_number y)) differ r.may.fresh;
           again = λ at is. r.may.again at (sym (cond-false (pmac_number x == pmac_number y) (Some (at_port t p)) (edge_port past (pmac_number y)) differ) ∙ is);
@@ -85,6 +94,15 @@ module _ (plan : Plan) (t : ℕ) where
         };
         stood = r.stood;
       }
+
+  -- the switch once the first address of a port was granted
+  abbrev after : SwitchView → ℕ → Source → SwitchView
+  after v p source = record v {
+    grants = set v.grants p (with_next (freed_at v p) (grants_at v p) (new_grant source.amac source.ip));
+    freed = set v.freed p (all_but_first (freed_at v p));
+    used = v.used ++ address_at_port v p 1 ∷ [];
+    remembered = set v.remembered p None;
+  }
 
   mapped : (P Q : ℕ → Type 0) (p : ℕ) → ((q : ℕ) → q ≢ p → P q → Q q) → (ports : List ℕ) → AllByRecursion (λ q. q ≢ p) ports → AllByRecursion P ports → AllByRecursion Q ports
   mapped P Q p f [] apart all = tt
@@ -100,19 +118,16 @@ module _ (plan : Plan) (t : ℕ) where
     where
       by_host : (source : Source) (o : Option ℕ) → remembered_at v p ≡ Some source → host_of plan source.amac ≡ o →
           ((u : SwitchView) (later : List Entry) → AllByRecursion (IsReady later u) ports → GrantsWell plan t (grants_remembered ports u).acts later) →
-          GrantsFor (GrantsWell plan t (grants_remembered ports (record v {
-            grants = set v.grants p (grants_at v p ++ new_grant source.amac source.ip ∷ []);
-            remembered = set v.remembered p None;
-          })).acts) plan t past (address_at_port v p 1) o
+          GrantsFor (GrantsWell plan t (grants_remembered ports (after v p source)).acts) plan t past (address_at_port v p 1) o
       by_host source None found of further = further _ past
-          (mapped (IsReady past v) _ p (λ q other r. ready_after past v p (grants_at v p ++ new_grant source.amac source.ip ∷ []) q other r) ports apart.0 all.1)
+          (mapped (IsReady past v) _ p (λ q other r. ready_after past v p _ _ _ q other r) ports apart.0 all.1)
       by_host source (Some h) found of further =
           let x : Pmac = address_at_port v p 1 in
           let later : List Entry = Granted x (host_no h) (switch_no t) p ∷ past in (
             record { may = record { fresh = all.0.may.fresh; port = refl; stood = all.0.stood h source found of; edge = all.0.may.edge }; again = all.0.may.again },
             further _ later
                 (mapped (IsReady past v) _ p
-                (λ q other r. ready_after later v p (grants_at v p ++ new_grant source.amac source.ip ∷ []) q other (ready_granted past v p h q other all.0.may r))
+                (λ q other r. ready_after later v p _ _ _ q other (ready_granted past v p h q other all.0.may r))
                 ports apart.0 all.1),
           )
 
@@ -121,19 +136,11 @@ module _ (plan : Plan) (t : ℕ) where
           GrantsWell plan t (((grants_source v p o).acts ++ []) ++ (grants_remembered ports (record (grants_source v p o).view {
             remembered = set (grants_source v p o).view.remembered p None;
           })).acts) past
-      by_source None found further = further _ past (mapped (IsReady past v) _ p (λ q other r. ready_forgotten past v p [] q other r) ports apart.0 all.1)
+      by_source None found further = further _ past (mapped (IsReady past v) _ p (λ q other r. ready_forgotten past v p q other r) ports apart.0 all.1)
       by_source (Some source) found further =
           let none : in_use (grants_at v p) source.amac ≡ None = ap (λ gs. in_use gs source.amac) all.0.empty in
-          let left : is_port_spent v p ≡ false = ap (λ gs. not (nat_lt (length gs) 65535)) all.0.empty in
-          let is_next : grants_source v p (Some source) ≡ grants_next v p source.amac source.ip =
-          ap (λ o. grants_or_learns v p source.amac source.ip o) none
-          ∙ cond-false (is_port_spent v p) (rests v) (grants_next v p source.amac source.ip) left in
-          let first : address_at_port v p (length (grants_at v p) + 1) ≡ address_at_port v p 1 = ap (λ gs. address_at_port v p (length gs + 1)) all.0.empty in
-          let rest : List Act = (grants_remembered ports (record v {
-            grants = set v.grants p (grants_at v p ++ new_grant source.amac source.ip ∷ []);
-            remembered = set v.remembered p None;
-          })).acts in
+          let first : next_vmid (freed_at v p) (grants_at v p) ≡ Some 1 = ap₂ next_vmid all.0.none_free all.0.empty in
+          let is_next : grants_source v p (Some source) ≡ grants_new v p source.amac source.ip (address_at_port v p 1) =
+          ap (λ o. grants_or_learns v p source.amac source.ip o) none ∙ ap (grants_next v p source.amac source.ip) first in
           subst (λ (step : SwitchStep). GrantsWell plan t ((step.acts ++ []) ++ (grants_remembered ports (record step.view { remembered = set step.view.remembered p None })).acts) past)
-          (sym is_next)
-          (subst (λ (x : Pmac). GrantsFor (GrantsWell plan t rest) plan t past x (host_of plan source.amac)) (sym first)
-          (by_host source (host_of plan source.amac) found refl further))
+          (sym is_next) (by_host source (host_of plan source.amac) found refl further)

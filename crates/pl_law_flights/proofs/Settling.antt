@@ -1,5 +1,5 @@
 -- A switch settles: it grants addresses to the sources that it remembers, with no frame in hand.
-use Rattle.std.proofs.Common.{◌≡◌, ℕ, ◌<◌, true, List, [], ◌∷◌, length, reverse, Option, None, Some, set, refl, sym, ◌∙◌, arith}
+use Rattle.std.proofs.Common.{◌≡◌, ℕ, ◌<◌, true, List, [], ◌∷◌, length, reverse, Option, None, Some, set, refl, sym, ◌∙◌, subst, arith}
 use Rattle.std.specs.List.{AllByRecursion, fold}
 use Rattle.std.proofs.lemmas.Bool.{false≢true}
 use Rattle.std.proofs.lemmas.Option.{slice_get_within}
@@ -83,11 +83,14 @@ settles place s k w past (act.Grant pmac amac ∷ acts) fits said st a well away
         }) well2.1 (λ g just. absurd (false≢true just))
 settles place s k w past (a ∷ acts) fits said st b well away = absurd well
 
--- a turn of a switch with no frame in hand, in which addresses are granted
-pub settling_turn : (rule : SwitchRule) → AccountsForFrames rule → (w : WorldView) (s : ℕ) (input : SwitchInput) (new : WorldView) → SaidNone ≡ first_frame_state input →
+-- a turn of a switch with no frame in hand, by what is told amid its acts
+pub done_turn : (rule : SwitchRule) → AccountsForFrames rule → (w : WorldView) (s : ℕ) (input : SwitchInput) (new : WorldView) → SaidNone ≡ first_frame_state input →
     ((v : SwitchView) → v.k ≡ w.plan.k → CanCome v input) → Sound w → IsJournaled w → (turn : SwitchTurn rule w s input Silent new) →
-    IsMore (place_in w.switches) (place_in new.switches) → GrantsWell w.plan s turn.acts (reverse w.journal) → HasNoneJustIn w.plan (reverse w.journal) s → IsJournaled new
-settling_turn rule accounts w s input new same can so told turn more well away =
+    IsMore (place_in w.switches) (place_in new.switches) →
+    ((w1 : WorldView) → w1.plan ≡ w.plan → AllByRecursion (IsFit turn.before.k) turn.acts → is_said (fold frame_state_after SaidNone turn.acts) ≡ true →
+    Steady s turn.before.k w1 Silent [] → IsAmid (place_in new.switches) s Empty (reverse w.journal) w1 Silent [] →
+    IsDone (place_in new.switches) s turn.before.k (acts_done s (amid w1 Silent []) turn.acts)) → IsJournaled new
+done_turn rule accounts w s input new same can so told turn more done =
     let r = so.rest in
     let size : turn.before.k ≡ w.plan.k = all_found (λ (u : SwitchView). u.k ≡ w.plan.k) w.switches s turn.before turn.found r.ports in
     let shaped : IsShaped turn.before = all_found IsShaped w.switches s turn.before turn.found r.shaped in
@@ -109,5 +112,13 @@ settling_turn rule accounts w s input new same can so told turn more well away =
       holds = tt;
       puts_off = tt;
     } in
-    done_journaled (place_in new.switches) s k (acts_done s (amid w1 Silent []) turn.acts) turn.before.place turn.after.place
-    (settles (place_in new.switches) s k w1 (reverse w.journal) turn.acts kept.fit said start a well away) new turn.changed
+    done_journaled (place_in new.switches) s k (acts_done s (amid w1 Silent []) turn.acts) turn.before.place turn.after.place (done w1 refl kept.fit said start a) new turn.changed
+
+-- one in which addresses are granted
+pub settling_turn : (rule : SwitchRule) → AccountsForFrames rule → (w : WorldView) (s : ℕ) (input : SwitchInput) (new : WorldView) → SaidNone ≡ first_frame_state input →
+    ((v : SwitchView) → v.k ≡ w.plan.k → CanCome v input) → Sound w → IsJournaled w → (turn : SwitchTurn rule w s input Silent new) →
+    IsMore (place_in w.switches) (place_in new.switches) → GrantsWell w.plan s turn.acts (reverse w.journal) → HasNoneJustIn w.plan (reverse w.journal) s → IsJournaled new
+settling_turn rule accounts w s input new same can so told turn more well away =
+    done_turn rule accounts w s input new same can so told turn more (λ w1 plan fit said start a.
+    settles (place_in new.switches) s turn.before.k w1 (reverse w.journal) turn.acts fit said start a
+    (subst (λ (p : Plan). GrantsWell p s turn.acts (reverse w.journal)) (sym plan) well) (subst (λ (p : Plan). HasNoneJustIn p (reverse w.journal) s) (sym plan) away))

@@ -1,5 +1,5 @@
--- Steps of a switch that speak of no frame at first: a tick, a message of the manager.
-use Rattle.std.proofs.Common.{◌≡◌, ℕ, List, [], ◌∷◌, ◌++◌, reverse, refl, sym, subst}
+-- Acts that speak of no frame, and steps of a switch that speak of none at first: a tick, a message of the manager.
+use Rattle.std.proofs.Common.{◌≡◌, ℕ, List, [], ◌∷◌, ◌++◌, reverse, refl}
 use Rattle.std.specs.List.{AllByRecursion}
 use Rattle.pl_layouts.specs.declared.place.Place.{Place}
 use Rattle.pl_node.specs.declared.acts.Act.{Act}
@@ -7,26 +7,20 @@ use Rattle.pl_node.specs.declared.acts.Act.TheVariants as act
 use Rattle.pl_node.specs.Accounting.{AccountsForFrames, CanCome, first_frame_state}
 use Rattle.pl_node.specs.Accounting.FrameState.{Silent as SaidNone}
 use Rattle.pl_node.specs.SwitchInputs.{SwitchInput, SwitchRule}
-use Rattle.pl_node.specs.SwitchInputs.SwitchInput.{Tick}
 use Rattle.pl_node.specs.SwitchViews.{SwitchView}
-use Rattle.pl_switch_rule.specs.Announcing.{ticks}
-use Rattle.pl_switch_rule.specs.SwitchRule.{Loose}
 use Rattle.pl_switch_rule.specs.Telling.{changes_told}
 use Rattle.pl_wiring.specs.Plan.{Plan}
 use Rattle.pl_world.specs.declared.spoken_frame.SpokenFrame.TheVariants.{Silent}
-use Rattle.pl_world.specs.Flying.{IsCounted}
-use Rattle.pl_world.specs.OtherActs.{heard_after_tick}
-use Rattle.pl_world.specs.WorldRule.{SwitchTurn, Ticks}
+use Rattle.pl_world.specs.WorldRule.{SwitchTurn}
 use Rattle.pl_world.specs.Worlds.{WorldView}
-use Rattle.pl_world.proofs.Exports.{heard_rest, Sound, sound, ticked_heard}
+use Rattle.pl_world.proofs.Exports.{Sound}
 use Rattle.pl_law_flights.specs.OnTheWay.{AddressHistory, IsJournaled, history_of, place_in}
 use Rattle.pl_law_flights.specs.Standing.{IsMore}
 use Rattle.pl_law_flights.proofs.RoutesStay.{tells_grown}
 use Rattle.pl_law_flights.proofs.Hands.{GoodActs, Hand}
 use Rattle.pl_law_flights.proofs.Hands.Hand.{Empty}
 use Rattle.pl_law_flights.proofs.SwitchTurns.{turn_journaled}
-use Rattle.pl_layouts.specs.declared.place.Place.{Place}
-use Rattle.pl_switch_rule.proofs.Exports.{ChangeActs, ticks_acts, told_acts}
+use Rattle.pl_switch_rule.proofs.Exports.{ChangeActs, told_acts}
 
 -- an act that speaks of no frame, and grants nothing
 abbrev pub IsSilent : Act → Type 0
@@ -41,7 +35,7 @@ pub silent_append : (xs ys : List Act) → AreSilent xs → AreSilent ys → Are
 silent_append [] ys first next = next
 silent_append (x ∷ xs) ys first next = (first.0, silent_append xs ys first.1 next)
 
-silent_change : (place : Place) → ChangeActs place IsSilent
+pub silent_change : (place : Place) → ChangeActs place IsSilent
 silent_change place = record { placed = tt; linked = λ neighbour usable. tt; wanted = λ position. tt }
 
 pub silent_changes : (old new : SwitchView) → AreSilent (changes_told old new)
@@ -74,16 +68,3 @@ silent_turn rule accounts w s input new same can so told turn more good =
       holds = tt;
       puts_off = tt;
     }) good
-
--- a switch ticks
-pub ticks_journaled : (w : WorldView) (s : ℕ) (new : WorldView) → AccountsForFrames Loose → IsCounted w → IsJournaled w → Ticks Loose w s new →
-    IsMore (place_in w.switches) (place_in new.switches) → IsJournaled new
-ticks_journaled w s new accounts counted told turn more =
-    let so = sound w counted in
-    let heard : WorldView = record w { heard = heard_after_tick s w.attachments w.heard } in
-    let v : SwitchView = turn.before in
-    let silent : AreSilent (ticks v).acts = ticks_acts IsSilent v (silent_change v.place) (λ port frame. tt) in
-    let acts : turn.acts ≡ (ticks v).acts = turn.ruled.steps.done in
-    silent_turn Loose accounts heard s Tick new refl (λ u size. tt)
-    (record { balance = so.balance; rest = heard_rest w _ (ticked_heard s w.attachments w.heard) so.rest }) told turn more
-    (all_silent_good w.plan (place_in new.switches) (history_of (reverse w.journal)) s turn.acts Empty (subst AreSilent (sym acts) silent))

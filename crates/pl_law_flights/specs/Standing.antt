@@ -1,5 +1,5 @@
 -- What the way of frames needs of the other parts: that what switches know of places is so.
-use Rattle.std.specs.Prelude.{◌≡◌, ◌<◌, ◌+◌, ◌^◌, ℕ, true, false, Contains, List, [], length, None, Some, reverse, slice_get, ◌&&◌}
+use Rattle.std.specs.Prelude.{◌≡◌, ◌<◌, ◌^◌, ℕ, true, false, Contains, List, [], length, None, Some, reverse, slice_get, ◌&&◌}
 use Rattle.pl_wiring.specs.declared.label.Label.TheVariants.{Aggregation, Edge}
 use Rattle.pl_wiring.specs.declared.label.SwitchNo.{SwitchNo}
 use Rattle.pl_frame.specs.declared.address.Mac.{Mac}
@@ -27,7 +27,7 @@ use Rattle.pl_world.specs.declared.attachment.AttachmentPoint.{AttachmentPoint}
 use Rattle.pl_world.specs.Changes.{host_of, out_of}
 use Rattle.pl_world.specs.Worlds.{WorldView}
 use Rattle.pl_switch_rule.specs.Delivering.{trap_for}
-use Rattle.pl_switch_rule.specs.Granting.{address_at_port, granted, grants_at, in_use, is_local, is_port_spent, remembered_at}
+use Rattle.pl_switch_rule.specs.Granting.{address_at_port, freed_at, granted, grants_at, held_here, in_use, is_local, is_port_spent, next_vmid, remembered_at}
 use Rattle.pl_law_addresses.specs.EdgeAddresses.{is_settled}
 use Rattle.pl_law_flights.specs.OnTheWay.{AddressHistory, history_of, place_in}
 
@@ -50,7 +50,13 @@ pub record IsMore (place later : ℕ → Place) : Type 0 where
   pub position : (s n : ℕ) → (place s).position ≡ Some n → (later s).position ≡ Some n
   pub pod : (s n : ℕ) → (place s).pod ≡ Some n → (later s).pod ≡ Some n
 
--- What the edge switch t knows of an address that it granted: who holds it, and that it was granted there, at a port for hosts.
+-- What the edge switch t knows of an address that it granted, and that may be free since: it was granted there.
+pub record WasGranted (history : AddressHistory) (t : ℕ) (x : Pmac) : Type 0 where
+  pub there : history.edge_ports (pmac_number x) ≡ Some (at_port t x.port)
+  pub fits : PmacFits x
+  pub own : is_group (mac_of x) ≡ false
+
+-- And of one that is not free: who holds it, and that it was granted there, at a port for hosts.
 pub record IsGranted (plan : Plan) (history : AddressHistory) (t : ℕ) (x : Pmac) (grant : Grant) : Type 0 where
   pub host : ℕ
   pub held : history.hold (pmac_number x) ≡ Some host
@@ -69,10 +75,11 @@ pub record TrapLeadsOn (history : AddressHistory) (x : Pmac) (trap : Trap) : Typ
   pub fits : PmacFits trap.new
   pub unicast : is_group (mac_of trap.new) ≡ false
 
--- What a switch knows of the addresses with its pod and position: those that it granted, and that no other was granted.
+-- What a switch knows of the addresses with its pod and position: those that it granted and that are not free, and that nobody holds another.
 pub record KnowsAddresses (plan : Plan) (history : AddressHistory) (t : ℕ) (v : SwitchView) : Type 0 where
-  pub granted_here : (x : Pmac) (grant : Grant) → granted v x ≡ Some grant → IsGranted plan history t x grant
-  pub not_granted : (x : Pmac) → PmacFits x → is_local v x ≡ true → granted v x ≡ None → history.hold (pmac_number x) ≡ None
+  pub granted_there : (x : Pmac) (grant : Grant) → granted v x ≡ Some grant → WasGranted history t x
+  pub granted_here : (x : Pmac) (grant : Grant) → held_here v x ≡ Some grant → IsGranted plan history t x grant
+  pub not_granted : (x : Pmac) → PmacFits x → is_local v x ≡ true → held_here v x ≡ None → history.hold (pmac_number x) ≡ None
   pub trapped : (x : Pmac) (trap : Trap) → trap_for v x ≡ Some trap → TrapLeadsOn history x trap
   pub pods : (n : ℕ) → v.place.pod ≡ Some n → n < 2 ^ 16
   pub back : (x : Pmac) (port : ℕ) → PmacFits x → history.edge_ports (pmac_number x) ≡ Some (at_port t port) → (is_local v x ≡ true) × (x.port ≡ port)
@@ -96,8 +103,8 @@ pub record KnowsHosts (plan : Plan) (past : List Entry) (t : ℕ) (v : SwitchVie
   pub spent : (port : ℕ) → is_settled v.place ≡ true → is_port_spent v port ≡ true → (is_spent past (at_port t port) && are_live_there (is_live past) past (at_port t port)) ≡ true
   pub empty : is_settled v.place ≡ false → (port : ℕ) → grants_at v port ≡ []
   pub stood : (port h : ℕ) (source : Source) → remembered_at v port ≡ Some source → host_of plan source.amac ≡ Some h → has_stood plan past h (at_port t port) ≡ true
-  pub next : (port : ℕ) → peer_of plan t port ≡ HostPort → port < plan.k → is_settled v.place ≡ true → is_port_spent v port ≡ false →
-      IsNextAddress past t (address_at_port v port (length (grants_at v port) + 1))
+  pub next : (port vmid : ℕ) → peer_of plan t port ≡ HostPort → port < plan.k → is_settled v.place ≡ true →
+      next_vmid (freed_at v port) (grants_at v port) ≡ Some vmid → IsNextAddress past t (address_at_port v port vmid)
 
 -- Each switch knows so, hosts stand at ports without links, and what waits in the queue of a host has its address as source.
 pub record StandsOnHosts (w : WorldView) : Type 0 where

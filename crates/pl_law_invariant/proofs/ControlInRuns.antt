@@ -1,5 +1,5 @@
 -- What holds in every run holds at the beginning, and each run of lawful logic keeps it. So does whatever each step keeps where all of it is kept.
-use Rattle.std.proofs.Common.{◌≡◌, List, [], ◌∷◌, None, refl, sym, subst}
+use Rattle.std.proofs.Common.{◌≡◌, List, [], ◌∷◌, None, refl, sym, subst, arith}
 use Rattle.std.proofs.lemmas.Option.{none-some}
 use Rattle.pl_wiring.specs.Plan.{Plan}
 use Rattle.pl_journal.specs.declared.entry.Entry.{Entry}
@@ -25,7 +25,7 @@ use Rattle.pl_law_control_plane.proofs.Exports.{hosts_at_first}
 use Rattle.pl_law_places.proofs.Exports.{placed_at_first}
 use Rattle.pl_law_votes.proofs.Exports.{votes_at_first}
 use Rattle.pl_law_pods.proofs.Exports.{given_at_first}
-use Rattle.pl_law_addresses.proofs.Exports.{boots_in_order, InOrder, mark_quiet, one_quiet, Parts}
+use Rattle.pl_law_addresses.proofs.Exports.{boots_in_order, InOrder, mark_quiet, no_moment, one_quiet, Parts}
 use Rattle.pl_law_addresses.specs.InOrder.{AddressesAreInOrder}
 use Rattle.pl_law_invariant.specs.ControlInvariant.{ControlInvariant}
 use Rattle.pl_law_invariant.proofs.KeepingControl.{step_keeps_all}
@@ -45,11 +45,17 @@ kept_at_first plan limits can =
     }
 
 -- ---- a mark grants nothing
-
 mark_in_order : (w : WorldView) (e : Entry) → IsMark e → AddressesAreInOrder w → AddressesAreInOrder (noted w e)
 mark_in_order w e is o =
-    let n = subst (λ (p : Parts). InOrder [] p) (sym (one_quiet w e (mark_quiet e is)))
-    (record { addressed = o.addressed; own = o.own; since = λ s v found. absurd (none-some v found); once = o.once }) in
+    let n = subst (λ (p : Parts). InOrder no_moment p) (sym (one_quiet w e (mark_quiet e is)))
+    (record {
+      addressed = o.addressed;
+      own = o.own;
+      since = λ s v found. absurd (none-some v found);
+      rises = λ x. omega arith;
+      given = λ x more kept s v found. absurd (none-some v found);
+      once = o.once;
+    }) in
     record { addressed = n.addressed; own = n.own; once = n.once }
 
 pub mark_keeps : (w : WorldView) (e : Entry) → IsMark e → ControlInvariant w → ControlInvariant (noted w e)

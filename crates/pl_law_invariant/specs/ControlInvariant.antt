@@ -19,5 +19,5 @@ pub record ControlInvariant (w : WorldView) : Type 0 where
   pub voting : AreVoting (control_plane w)
   -- numbers of pods are those that were given
   pub given : ArePodsGiven (control_plane w)
-  -- addresses are in order: of grants, traps and registrations, and none is granted twice
+  -- addresses are in order: of grants, traps and registrations, and none is granted again before it was freed
   pub addresses : AddressesAreInOrder w

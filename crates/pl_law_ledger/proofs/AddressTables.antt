@@ -1,7 +1,7 @@
 -- What entries say of addresses.
-use Rattle.std.proofs.Common.{◌≡◌, ◌⊎◌, ◌+◌, ◌==◌, ◌&&◌, ◌||◌, not, ℕ, Bool, true, if◌then◌else◌, List, [], ◌∷◌, Option, Some, None, refl, sym, ap, subst, ◌∙◌, inl, inr}
+use Rattle.std.proofs.Common.{◌≡◌, ◌⊎◌, ◌+◌, ◌==◌, ◌&&◌, ◌||◌, not, ℕ, Bool, true, false, cond, if◌then◌else◌, List, [], ◌∷◌, Option, Some, None, refl, sym, ap, subst, ◌∙◌, inl, inr}
 use Rattle.std.specs.List.{AllByRecursion}
-use Rattle.std.proofs.lemmas.Bool.{and_from, and_parts, cases_Bool, cond-false, cond-true, eq-eqb, eqb-true, or_left, or_right}
+use Rattle.std.proofs.lemmas.Bool.{and_from, and_parts, cases_Bool, cond-false, cond-true, eq-eqb, eqb-true, false_from_ne_true, or_left, or_right}
 use Rattle.std.proofs.lemmas.Option.{none-some, same_Some}
 use Rattle.pl_pmac.specs.declared.pmac.Pmac.{Pmac}
 use Rattle.pl_pmac.specs.Pmac.{pmac_number}
@@ -74,57 +74,58 @@ same_says plan (entry ∷ past) = same_says plan past
 
 -- ---- what entries that switch s adds change
 module _ (plan : Plan) (s : ℕ) where
-  -- a number has this host and this port, and is live
-  pub record IsAt (entries : List Entry) (n h : ℕ) (at : EdgePort) : Type 0 where
+  -- a number has this host and this port, and is live or is not
+  pub record IsAt (entries : List Entry) (n h : ℕ) (at : EdgePort) (live : Bool) : Type 0 where
     pub held : holder entries n ≡ Some h
     pub there : edge_port entries n ≡ Some at
-    pub live : is_live entries n ≡ true
+    pub is_so : is_live entries n ≡ live
 
-  -- what is granted has another number, or this host and port
-  abbrev pub IsFor : ℕ → ℕ → EdgePort → Giving → Type 0
-  IsFor n h at g = (pmac_number g.pmac ≡ n → ⊥) ⊎ ((host_of plan g.mac ≡ Some h) × (at_port s g.pmac.port ≡ at))
+  -- what is granted has another number, or this host and port, and is live
+  abbrev pub IsFor : ℕ → ℕ → EdgePort → Bool → Giving → Type 0
+  IsFor n h at live g = (pmac_number g.pmac ≡ n → ⊥) ⊎ ((host_of plan g.mac ≡ Some h) × (at_port s g.pmac.port ≡ at) × (live ≡ true))
 
-  entered_at : (entries : List Entry) (x : Pmac) (n h : ℕ) (at : EdgePort) (o : Option ℕ) → (pmac_number x ≡ n → ⊥) ⊎ ((o ≡ Some h) × (at_port s x.port ≡ at)) → IsAt entries n h at →
-      IsAt (entry_for s entries x o) n h at
-  entered_at entries x n h at None may is = record { held = is.held; there = is.there; live = is.live }
-  entered_at entries x n h at (Some m) may is = elim (cases_Bool (pmac_number x == n)) [
+  entered_at : (entries : List Entry) (x : Pmac) (n h : ℕ) (at : EdgePort) (live : Bool) (o : Option ℕ) →
+      (pmac_number x ≡ n → ⊥) ⊎ ((o ≡ Some h) × (at_port s x.port ≡ at) × (live ≡ true)) → IsAt entries n h at live → IsAt (entry_for s entries x o) n h at live
+  entered_at entries x n h at live None may is = record { held = is.held; there = is.there; is_so = is.is_so }
+  entered_at entries x n h at live (Some m) may is = elim (cases_Bool (pmac_number x == n)) [
     | inr other ↦ record {
       held = cond-false (pmac_number x == n) (Some m) (holder entries n) other ∙ is.held;
       there = cond-false (pmac_number x == n) (Some (at_port s x.port)) (edge_port entries n) other ∙ is.there;
-      live = or_right (pmac_number x == n) (is_live entries n) is.live;
+      is_so = ap (λ b. b || is_live entries n) other ∙ is.is_so;
     }
     | inl same ↦ elim may [
       | inl apart ↦ absurd (apart (eqb-true (pmac_number x) n same))
       | inr so ↦ record {
         held = cond-true (pmac_number x == n) (Some m) (holder entries n) same ∙ so.0;
         there = cond-true (pmac_number x == n) (Some (at_port s x.port)) (edge_port entries n) same ∙ ap Some so.1;
-        live = or_left (pmac_number x == n) (is_live entries n) same;
+        is_so = or_left (pmac_number x == n) (is_live entries n) same ∙ sym so.2;
       }
     ]
   ]
 
-  pub still_at : (gs : List Giving) (entries : List Entry) (n h : ℕ) (at : EdgePort) → AllByRecursion (IsFor n h at) gs → IsAt entries n h at → IsAt (all_written plan s entries gs) n h at
-  still_at [] entries n h at all is = record { held = is.held; there = is.there; live = is.live }
-  still_at (g ∷ gs) entries n h at all is =
-      still_at gs (entry_for s entries g.pmac (host_of plan g.mac)) n h at all.1 (entered_at entries g.pmac n h at (host_of plan g.mac) all.0 is)
+  pub still_at : (gs : List Giving) (entries : List Entry) (n h : ℕ) (at : EdgePort) (live : Bool) → AllByRecursion (IsFor n h at live) gs → IsAt entries n h at live →
+      IsAt (all_written plan s entries gs) n h at live
+  still_at [] entries n h at live all is = record { held = is.held; there = is.there; is_so = is.is_so }
+  still_at (g ∷ gs) entries n h at live all is =
+      still_at gs (entry_for s entries g.pmac (host_of plan g.mac)) n h at live all.1 (entered_at entries g.pmac n h at live (host_of plan g.mac) all.0 is)
 
-  now_first : (entries : List Entry) (x : Pmac) (h : ℕ) (o : Option ℕ) → o ≡ Some h → IsAt (entry_for s entries x o) (pmac_number x) h (at_port s x.port)
+  now_first : (entries : List Entry) (x : Pmac) (h : ℕ) (o : Option ℕ) → o ≡ Some h → IsAt (entry_for s entries x o) (pmac_number x) h (at_port s x.port) true
   now_first entries x h None is = absurd (none-some h is)
   now_first entries x h (Some m) is =
       let e = eq-eqb (pmac_number x) (pmac_number x) refl in
       record {
         held = cond-true (pmac_number x == pmac_number x) (Some m) (holder entries (pmac_number x)) e ∙ is;
         there = cond-true (pmac_number x == pmac_number x) (Some (at_port s x.port)) (edge_port entries (pmac_number x)) e;
-        live = or_left (pmac_number x == pmac_number x) (is_live entries (pmac_number x)) e;
+        is_so = or_left (pmac_number x == pmac_number x) (is_live entries (pmac_number x)) e;
       }
 
   pub now_at : (gs : List Giving) (entries : List Entry) (g : Giving) (h : ℕ) → IsOneOf gs g → host_of plan g.mac ≡ Some h →
-      AllByRecursion (IsFor (pmac_number g.pmac) h (at_port s g.pmac.port)) gs → IsAt (all_written plan s entries gs) (pmac_number g.pmac) h (at_port s g.pmac.port)
+      AllByRecursion (IsFor (pmac_number g.pmac) h (at_port s g.pmac.port) true) gs → IsAt (all_written plan s entries gs) (pmac_number g.pmac) h (at_port s g.pmac.port) true
   now_at [] entries g h one of all = absurd one
   now_at (f ∷ gs) entries g h one of all = elim one [
     | inl here ↦
-        still_at gs (entry_for s entries f.pmac (host_of plan f.mac)) (pmac_number g.pmac) h (at_port s g.pmac.port) all.1
-        (subst (λ (q : Giving). IsAt (entry_for s entries f.pmac (host_of plan f.mac)) (pmac_number q.pmac) h (at_port s q.pmac.port)) here
+        still_at gs (entry_for s entries f.pmac (host_of plan f.mac)) (pmac_number g.pmac) h (at_port s g.pmac.port) true all.1
+        (subst (λ (q : Giving). IsAt (entry_for s entries f.pmac (host_of plan f.mac)) (pmac_number q.pmac) h (at_port s q.pmac.port) true) here
         (now_first entries f.pmac h (host_of plan f.mac) (ap (λ (q : Giving). host_of plan q.mac) here ∙ of)))
     | inr later ↦ now_at gs (entry_for s entries f.pmac (host_of plan f.mac)) g h later of all.1
   ]
@@ -186,30 +187,62 @@ module _ (plan : Plan) (s : ℕ) where
         (last_first entries f.pmac (host_of plan f.mac) Q h (ap (λ (q : Giving). host_of plan q.mac) here ∙ of) (subst (λ (q : Giving). Q q.pmac) (sym here) good)))
   ]
 
-  -- nothing else is said
+  -- where hosts have stood, and how many addresses were registered, is as before
   pub record SaysAlike (entries later : List Entry) : Type 0 where
     pub stood : (h : ℕ) (there : EdgePort) → has_stood plan later h there ≡ has_stood plan entries h there
-    pub numbers : (n : ℕ) → number later n ≡ number entries n
     pub count : registered later ≡ registered entries
 
-  alike_entry : (entries : List Entry) (x : Pmac) (o : Option ℕ) → number entries (pmac_number x) ≡ None → SaysAlike entries (entry_for s entries x o)
-  alike_entry entries x None none = record { stood = λ h there. refl; numbers = λ n. refl; count = refl }
-  alike_entry entries x (Some m) none = record {
-    stood = λ h there. refl;
-    numbers = λ n. elim (cases_Bool (pmac_number x == n)) [
-      | inl same ↦ cond-true (pmac_number x == n) None (number entries n) same ∙ sym (ap (λ k. number entries k) (sym (eqb-true (pmac_number x) n same)) ∙ none)
-      | inr other ↦ cond-false (pmac_number x == n) None (number entries n) other
-    ];
-    count = refl;
-  }
+  alike_entry : (entries : List Entry) (x : Pmac) (o : Option ℕ) → SaysAlike entries (entry_for s entries x o)
+  alike_entry entries x None = record { stood = λ h there. refl; count = refl }
+  alike_entry entries x (Some m) = record { stood = λ h there. refl; count = refl }
 
-  -- none of those that are given has a number
-  abbrev pub HaveNone : List Entry → List Giving → Type 0
-  HaveNone entries gs = AllByRecursion (λ g. number entries (pmac_number g.pmac) ≡ None) gs
+  -- ---- numbers: one that is granted has none from then on
+  number_entry : (entries : List Entry) (x : Pmac) (o : Option ℕ) (n : ℕ) → (pmac_number x ≡ n → ⊥) → number (entry_for s entries x o) n ≡ number entries n
+  number_entry entries x None n other = refl
+  number_entry entries x (Some m) n other =
+      cond-false (pmac_number x == n) None (number entries n) (false_from_ne_true (pmac_number x == n) (λ is. other (eqb-true (pmac_number x) n is)))
 
-  still_none : (entries later : List Entry) (gs : List Giving) → ((n : ℕ) → number later n ≡ number entries n) → HaveNone entries gs → HaveNone later gs
-  still_none entries later [] same none = tt
-  still_none entries later (g ∷ gs) same none = (same (pmac_number g.pmac) ∙ none.0, still_none entries later gs same none.1)
+  pub other_numbers : (gs : List Giving) (entries : List Entry) (n : ℕ) → AllByRecursion (λ g. pmac_number g.pmac ≡ n → ⊥) gs → number (all_written plan s entries gs) n ≡ number entries n
+  other_numbers [] entries n all = refl
+  other_numbers (g ∷ gs) entries n all =
+      other_numbers gs (entry_for s entries g.pmac (host_of plan g.mac)) n all.1 ∙ number_entry entries g.pmac (host_of plan g.mac) n all.0
+
+  was_entry : (entries : List Entry) (x : Pmac) (o : Option ℕ) (n m : ℕ) → number (entry_for s entries x o) n ≡ Some m → number entries n ≡ Some m
+  was_entry entries x None n m is = is
+  was_entry entries x (Some h) n m is = by (pmac_number x == n) is
+    where
+      by : (b : Bool) → cond b None (number entries n) ≡ Some m → number entries n ≡ Some m
+      by true none = absurd (none-some m none)
+      by false was = was
+
+  pub was_number : (gs : List Giving) (entries : List Entry) (n m : ℕ) → number (all_written plan s entries gs) n ≡ Some m → number entries n ≡ Some m
+  was_number [] entries n m is = is
+  was_number (g ∷ gs) entries n m is =
+      was_entry entries g.pmac (host_of plan g.mac) n m (was_number gs (entry_for s entries g.pmac (host_of plan g.mac)) n m is)
+
+  none_or_number : (entries later : List Entry) (n : ℕ) → ((m : ℕ) → number later n ≡ Some m → number entries n ≡ Some m) → number entries n ≡ None → number later n ≡ None
+  none_or_number entries later n was none = by (number later n) refl
+    where
+      by : (o : Option ℕ) → number later n ≡ o → o ≡ None
+      by None is = refl
+      by (Some m) is = absurd (none-some m (sym none ∙ was m is))
+
+  pub no_number : (gs : List Giving) (entries : List Entry) (n : ℕ) → number entries n ≡ None → number (all_written plan s entries gs) n ≡ None
+  no_number gs entries n none = none_or_number entries (all_written plan s entries gs) n (λ m is. was_number gs entries n m is) none
+
+  reset_entry : (entries : List Entry) (x : Pmac) (o : Option ℕ) (h : ℕ) → o ≡ Some h → number (entry_for s entries x o) (pmac_number x) ≡ None
+  reset_entry entries x None h is = absurd (none-some h is)
+  reset_entry entries x (Some m) h is = cond-true (pmac_number x == pmac_number x) None (number entries (pmac_number x)) (eq-eqb (pmac_number x) (pmac_number x) refl)
+
+  pub given_number : (gs : List Giving) (entries : List Entry) (g : Giving) (h : ℕ) → IsOneOf gs g → host_of plan g.mac ≡ Some h → number (all_written plan s entries gs) (pmac_number g.pmac) ≡ None
+  given_number [] entries g h one of = absurd one
+  given_number (f ∷ gs) entries g h one of = elim one [
+    | inr later ↦ given_number gs (entry_for s entries f.pmac (host_of plan f.mac)) g h later of
+    | inl here ↦
+        no_number gs (entry_for s entries f.pmac (host_of plan f.mac)) (pmac_number g.pmac)
+        (subst (λ (q : Giving). number (entry_for s entries f.pmac (host_of plan f.mac)) (pmac_number q.pmac) ≡ None) here
+        (reset_entry entries f.pmac (host_of plan f.mac) h (ap (λ (q : Giving). host_of plan q.mac) here ∙ of)))
+  ]
 
   -- an address that was granted still has a holder
   holder_entry : (entries : List Entry) (x : Pmac) (o : Option ℕ) (n : ℕ) → (h : ℕ) × (holder entries n ≡ Some h) → (h : ℕ) × (holder (entry_for s entries x o) n ≡ Some h)
@@ -223,16 +256,12 @@ module _ (plan : Plan) (s : ℕ) where
   some_holder [] entries n is = is
   some_holder (g ∷ gs) entries n is = some_holder gs (entry_for s entries g.pmac (host_of plan g.mac)) n (holder_entry entries g.pmac (host_of plan g.mac) n is)
 
-  pub alike : (gs : List Giving) (entries : List Entry) → HaveNone entries gs → SaysAlike entries (all_written plan s entries gs)
-  alike [] entries none = record { stood = λ h there. refl; numbers = λ n. refl; count = refl }
-  alike (g ∷ gs) entries none =
-      let one = alike_entry entries g.pmac (host_of plan g.mac) none.0 in
-      let rest = alike gs (entry_for s entries g.pmac (host_of plan g.mac)) (still_none entries (entry_for s entries g.pmac (host_of plan g.mac)) gs one.numbers none.1) in
-      record {
-        stood = λ h there. rest.stood h there ∙ one.stood h there;
-        numbers = λ n. rest.numbers n ∙ one.numbers n;
-        count = rest.count ∙ one.count;
-      }
+  pub alike : (gs : List Giving) (entries : List Entry) → SaysAlike entries (all_written plan s entries gs)
+  alike [] entries = record { stood = λ h there. refl; count = refl }
+  alike (g ∷ gs) entries =
+      let one = alike_entry entries g.pmac (host_of plan g.mac) in
+      let rest = alike gs (entry_for s entries g.pmac (host_of plan g.mac)) in
+      record { stood = λ h there. rest.stood h there ∙ one.stood h there; count = rest.count ∙ one.count }
 
   backed_entry : (switches : List SwitchView) (entries : List Entry) (x : Pmac) (o : Option ℕ) → IsGrantedThere switches x s x.port → AllByRecursion (IsBacked switches) entries →
       AllByRecursion (IsBacked switches) (entry_for s entries x o)
@@ -299,15 +328,3 @@ spent_there (Granted y h e p ∷ entries) n there all is = elim (cases_Bool (pma
     edge_port_itself : (a : EdgePort) → same_edge_port a a ≡ true
     edge_port_itself a = and_from (a.edge == a.edge) (a.port == a.port) (eq-eqb a.edge a.edge refl) (eq-eqb a.port a.port refl)
 spent_there (entry ∷ entries) n there all is = spent_there entries n there all.1 is
-
--- each address that is granted at a port is live
-abbrev pub IsLiveOne : (ℕ → Bool) → Entry → Type 0
-IsLiveOne live (Granted y h e p) = live (pmac_number y) ≡ true
-IsLiveOne live entry = Unit {0}
-
-pub live_there : (live : ℕ → Bool) (entries : List Entry) (there : EdgePort) → AllByRecursion (IsLiveOne live) entries → are_live_there live entries there ≡ true
-live_there live [] there all = refl
-live_there live (Granted y h e p ∷ entries) there all =
-    let elsewhere : Bool = not (same_edge_port (at_port e.0 p) there) in
-    and_from (elsewhere || live (pmac_number y)) (are_live_there live entries there) (or_right elsewhere (live (pmac_number y)) all.0) (live_there live entries there all.1)
-live_there live (entry ∷ entries) there all = live_there live entries there all.1

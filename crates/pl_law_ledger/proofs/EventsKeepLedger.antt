@@ -98,6 +98,7 @@ move_ledger u h to within l = record {
         (eq-eqb to.port attachment.port (ap (λ (q : AttachmentPoint). q.port) attachment_is))))
   ];
   numbers = l.numbers;
+  unnumbered = l.unnumbered;
   numbered = l.numbered;
   count = l.count;
 }
@@ -106,19 +107,19 @@ module _ (w : WorldView) (f : Facts w) (at_edges : HostsAtEdges w) (addressed : 
     (own : AreOwnHosts w.plan w.hosts w.from_hosts) (know : KnowNeighbours w) (formed : AreFormed w.switches) (l : IsIn (parts_of w)) where
   -- ---- an item comes at a switch
   comes_at : (u : WorldView) (s port : ℕ) (item : Item) (new : WorldView) → parts_of u ≡ parts_of w → IsItem item → AreFormed new.switches →
-      AreAddressed u.plan u.manager u.switches u.to_manager u.from_manager →
+      AreAddressed u.plan u.manager u.switches u.to_manager u.from_manager → length u.to_manager ≡ length u.switches →
       ((id : ℕ) (frame : List ℕ) → item ≡ Data id frame → (v : SwitchView) → slice_get u.switches s ≡ Some v → is_open_to_hosts (port_of v port) ≡ true →
       IsOfHost (λ mac. own_ip u.plan mac) v port frame × StoodAt u s port (source_of frame)) →
       ComesAtSwitch Loose u s port item new → IsIn (parts_of new)
-  comes_at u s port (Control frame) new same is new_formed addressed fair turn =
-      switch_ledger u s (Comes port frame) _ new u.from_manager addressed (subst IsIn (sym same) l) new_formed
+  comes_at u s port (Control frame) new same is new_formed addressed many fair turn =
+      switch_ledger u s (Comes port frame) _ new u.from_manager addressed (subst IsIn (sym same) l) new_formed many
       (λ v found choose. brings_frame (λ mac. own_ip u.plan mac) (registry_of u.manager.learnt) (slice_get u.plan.ids s) choose (items_at u.from_manager s) v port frame
       (λ control host. absurd (false≢true (sym control ∙ is.kind))))
       (λ v found control host. absurd (false≢true (sym control ∙ is.kind))) turn
-  comes_at u s port (Data id frame) new same is new_formed addressed fair turn =
+  comes_at u s port (Data id frame) new same is new_formed addressed many fair turn =
       let z : WorldView = noted u (Crossed id (switch_no s)) in
       let parts : parts_of z ≡ parts_of u = one_quiet u (Crossed id (switch_no s)) (λ past. refl) in
-      switch_ledger z s (Comes port frame) _ new u.from_manager addressed (subst IsIn (sym (parts ∙ same)) l) new_formed
+      switch_ledger z s (Comes port frame) _ new u.from_manager addressed (subst IsIn (sym (parts ∙ same)) l) new_formed many
       (λ v found choose. brings_frame (λ mac. own_ip u.plan mac) (registry_of u.manager.learnt) (slice_get u.plan.ids s) choose (items_at u.from_manager s) v port frame
       (λ control host. (fair id frame refl v found host).0))
       (λ v found control host. let both = fair id frame refl v found host in
@@ -140,7 +141,7 @@ module _ (w : WorldView) (f : Facts w) (at_edges : HostsAtEdges w) (addressed : 
       let popped : WorldView = record w { from_hosts = set w.from_hosts h items } in
       let edge : IsAtEdge w.plan attachment = all_found (IsAtEdge w.plan) w.attachments h attachment at_edges is in
       let source : source_of frame ≡ host.0.mac = source_is host.0 frame mine in
-      comes_at (heard_item popped h (Data id frame)) attachment.edge.0 attachment.port (Data id frame) new refl frames new_formed addressed
+      comes_at (heard_item popped h (Data id frame)) attachment.edge.0 attachment.port (Data id frame) new refl frames new_formed addressed f.ups
       (λ n bytes same v found host_port.
       let bytes_are : frame ≡ bytes = ap bytes_of same in (
         record {
@@ -169,7 +170,7 @@ module _ (w : WorldView) (f : Facts w) (at_edges : HostsAtEdges w) (addressed : 
         (parts_of new)
     over_link s port q item items t new head new_formed peer comes =
         let all = (subst (λ (xs : List Item). AllByRecursion IsItem xs) head (all_items_at IsItem w.out (port_index w.plan.k s port) f.port_items)).0 in
-        comes_at (record w { out = set w.out (port_index w.plan.k s port) items }) t.0 q item new refl all new_formed addressed
+        comes_at (record w { out = set w.out (port_index w.plan.k s port) items }) t.0 q item new refl all new_formed addressed f.ups
         (λ id frame same v found host_port.
         absurd (false≢true (sym (know s port t q id frame v peer
         (subst (λ (xs : List Item). Contains xs (Data id frame)) (sym head) (subst (λ (i : Item). Contains (item ∷ items) i) same (Contains-append_left (item ∷ []) items item (Contains-push [] item)))) found) ∙ host_port))) comes
@@ -181,7 +182,7 @@ module _ (w : WorldView) (f : Facts w) (at_edges : HostsAtEdges w) (addressed : 
         let u : WorldView = record w { from_manager = set w.from_manager s items } in
         let within = filled_within w.from_manager s says items is in
         let now : items_at (set w.from_manager s items) s ≡ items = get_or-set_same w.from_manager s items [] within in
-        switch_ledger u s (Says says) _ new w.from_manager addressed l new_formed
+        switch_ledger u s (Says says) _ new w.from_manager addressed l new_formed f.ups
         (λ v found choose.
         subst (λ (xs : List ToSwitch). Brings (λ mac. own_ip w.plan mac) (registry_of w.manager.learnt) (slice_get w.plan.ids s) choose xs (items_at u.from_manager s) v (switch_step choose v (Says says))) (sym is)
         (subst (λ (xs : List ToSwitch). Brings (λ mac. own_ip w.plan mac) (registry_of w.manager.learnt) (slice_get w.plan.ids s) choose (says ∷ items) xs v (switch_step choose v (Says says))) (sym now)
@@ -191,7 +192,7 @@ module _ (w : WorldView) (f : Facts w) (at_edges : HostsAtEdges w) (addressed : 
     -- ---- all else
     ticks_on : (s : ℕ) (new : WorldView) → AreFormed new.switches → SwitchTurn Loose (record w { heard = heard_after_tick s w.attachments w.heard }) s Tick Silent new → IsIn (parts_of new)
     ticks_on s new new_formed turn =
-        switch_ledger (record w { heard = heard_after_tick s w.attachments w.heard }) s Tick _ new w.from_manager addressed l new_formed
+        switch_ledger (record w { heard = heard_after_tick s w.attachments w.heard }) s Tick _ new w.from_manager addressed l new_formed f.ups
         (λ v found choose. brings_tick (λ mac. own_ip w.plan mac) (registry_of w.manager.learnt) (slice_get w.plan.ids s) choose (items_at w.from_manager s) v)
         (λ v found. tt) turn
 
@@ -202,7 +203,7 @@ module _ (w : WorldView) (f : Facts w) (at_edges : HostsAtEdges w) (addressed : 
       by_case (OutOfPort s port item items is head joined comes) =
           still new (out_left SameParts IsNoGrantEntry same_writes rule (host_parts rule) (λ id h frame past. refl)
           (record w { out = set w.out (port_index w.plan.k s.0 port) items }) s.0 port item new comes)
-      by_case (Reported s told items is head turn) = manager_ledger w s.0 told items new addressed formed f.ids l head turn
+      by_case (Reported s told items is head turn) = manager_ledger w f.plan s.0 told items new addressed formed f.ids f.ups f.downs l head turn
       by_case (Ordered s says items is head turn) = from_manager s.0 says items new head new_formed turn
       by_case (Ticked s is turn) = ticks_on s.0 new new_formed turn
       by_case (Failed a b link is found fails) =

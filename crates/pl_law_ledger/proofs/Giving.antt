@@ -1,6 +1,7 @@
 -- The addresses that acts grant, in order.
-use Rattle.std.proofs.Common.{◌≡◌, ◌⊎◌, ◌+◌, ℕ, if◌then◌else◌, List, [], ◌∷◌, ◌++◌, None, refl, ap, subst, inl, inr}
+use Rattle.std.proofs.Common.{◌≡◌, ◌⊎◌, ◌+◌, ℕ, if◌then◌else◌, List, [], ◌∷◌, ◌++◌, false, refl, sym, ap, subst, inl, inr}
 use Rattle.std.specs.List.{AllByRecursion}
+use Rattle.pl_lemmas.proofs.Exports.{all_append}
 use Rattle.pl_frame.specs.declared.address.Mac.{Mac}
 use Rattle.pl_pmac.specs.declared.pmac.Pmac.{Pmac}
 use Rattle.pl_layouts.specs.Equality.{same_pmac}
@@ -8,8 +9,10 @@ use Rattle.pl_node.specs.declared.acts.Act.{Act}
 use Rattle.pl_node.specs.declared.acts.Act.TheVariants as act
 use Rattle.pl_node.specs.SwitchViews.{SwitchView}
 use Rattle.pl_switch_rule.specs.Granting.{granted}
-use Rattle.pl_law_addresses.specs.EdgeAddresses.{IsGrantedTo}
-use Rattle.pl_law_addresses.proofs.Exports.{AreSilent, grant_acts, IsNewGrant}
+use Rattle.pl_node.specs.declared.messages.ToManager.{ToManager}
+use Rattle.pl_node.specs.declared.messages.ToManager.TheVariants as tell
+use Rattle.pl_law_addresses.specs.EdgeAddresses.{IsHeldFor, is_live}
+use Rattle.pl_law_addresses.proofs.Exports.{AreSilent, free_acts, grant_acts, IsSilentWord, SaysSo, told_append, told_by}
 
 -- an address is granted to a host
 pub record Giving : Type 0 where
@@ -53,6 +56,7 @@ givings_append (act.Control port frame ∷ xs) ys = givings_append xs ys
 givings_append (act.Make frame ∷ xs) ys = givings_append xs ys
 givings_append (act.Redirect old new ∷ xs) ys = givings_append xs ys
 givings_append (act.Pass port frame ∷ xs) ys = givings_append xs ys
+givings_append (act.Free x ∷ xs) ys = givings_append xs ys
 givings_append (act.Take ∷ xs) ys = givings_append xs ys
 givings_append (act.Drop cause ∷ xs) ys = givings_append xs ys
 
@@ -64,6 +68,7 @@ none_given (act.Control port frame ∷ acts) are = none_given acts are.1
 none_given (act.Make frame ∷ acts) are = none_given acts are.1
 none_given (act.Redirect old new ∷ acts) are = none_given acts are.1
 none_given (act.Pass port frame ∷ acts) are = none_given acts are.1
+none_given (act.Free x ∷ acts) are = absurd are.0
 none_given (act.Take ∷ acts) are = none_given acts are.1
 none_given (act.Drop cause ∷ acts) are = none_given acts are.1
 
@@ -80,14 +85,15 @@ same_times x (act.Control port frame ∷ acts) = same_times x acts
 same_times x (act.Make frame ∷ acts) = same_times x acts
 same_times x (act.Redirect old new ∷ acts) = same_times x acts
 same_times x (act.Pass port frame ∷ acts) = same_times x acts
+same_times x (act.Free y ∷ acts) = same_times x acts
 same_times x (act.Take ∷ acts) = same_times x acts
 same_times x (act.Drop cause ∷ acts) = same_times x acts
 
--- each was granted to nobody before, and is granted then
+-- each was nobody's before, and is this host's then
 abbrev pub IsNewlyGiven : SwitchView → SwitchView → Giving → Type 0
-IsNewlyGiven v w g = (granted v g.pmac ≡ None) × IsGrantedTo (λ y. granted w y) g.pmac g.mac
+IsNewlyGiven v w g = (is_live v g.pmac ≡ false) × IsHeldFor (λ y. granted w y) g.pmac g.mac
 
-pub newly_given : (v w : SwitchView) (acts : List Act) → AllByRecursion (IsNewGrant v w) acts → AllByRecursion (IsNewlyGiven v w) (givings acts)
+pub newly_given : (v w : SwitchView) (acts : List Act) → AllByRecursion (SaysSo v w) acts → AllByRecursion (IsNewlyGiven v w) (givings acts)
 newly_given v w [] all = tt
 newly_given v w (act.Grant x mac ∷ acts) all = (all.0, newly_given v w acts all.1)
 newly_given v w (act.Tell told ∷ acts) all = newly_given v w acts all.1
@@ -95,5 +101,51 @@ newly_given v w (act.Control port frame ∷ acts) all = newly_given v w acts all
 newly_given v w (act.Make frame ∷ acts) all = newly_given v w acts all.1
 newly_given v w (act.Redirect old new ∷ acts) all = newly_given v w acts all.1
 newly_given v w (act.Pass port frame ∷ acts) all = newly_given v w acts all.1
+newly_given v w (act.Free x ∷ acts) all = newly_given v w acts all.1
 newly_given v w (act.Take ∷ acts) all = newly_given v w acts all.1
 newly_given v w (act.Drop cause ∷ acts) all = newly_given v w acts all.1
+
+-- ---- acts that free no address
+abbrev pub FreesNone : Act → Type 0
+FreesNone (act.Free x) = ⊥
+FreesNone a = Unit {0}
+
+pub silent_frees_none : (acts : List Act) → AreSilent acts → AllByRecursion FreesNone acts
+silent_frees_none [] are = tt
+silent_frees_none (act.Free x ∷ acts) are = absurd are.0
+silent_frees_none (a ∷ acts) are = (tt, silent_frees_none acts are.1)
+
+pub counts_none_freed : (x : Pmac) (acts : List Act) → AllByRecursion FreesNone acts → free_acts x acts ≡ 0
+counts_none_freed x [] none = refl
+counts_none_freed x (act.Free y ∷ acts) none = absurd none.0
+counts_none_freed x (a ∷ acts) none = counts_none_freed x acts none.1
+
+-- ---- what acts tell of addresses
+-- P holds of each address that is told
+abbrev pub IsToldOf : (Pmac → Type 0) → ToManager → Type 0
+IsToldOf P (tell.Learned x amac ip) = P x
+IsToldOf P word = Unit {0}
+
+abbrev pub AreToldOf : (Pmac → Type 0) → List Act → Type 0
+AreToldOf P acts = AllByRecursion (IsToldOf P) (told_by acts)
+
+silent_word_told : (P : Pmac → Type 0) (word : ToManager) → IsSilentWord word → IsToldOf P word
+silent_word_told P (tell.Learned x amac ip) is = absurd is
+silent_word_told P word is = tt
+
+pub silent_told : (P : Pmac → Type 0) (acts : List Act) → AreSilent acts → AreToldOf P acts
+silent_told P [] are = tt
+silent_told P (act.Tell word ∷ acts) are = (silent_word_told P word are.0, silent_told P acts are.1)
+silent_told P (a ∷ acts) are = silent_told P acts are.1
+
+word_weaker : (P Q : Pmac → Type 0) → ((x : Pmac) → P x → Q x) → (word : ToManager) → IsToldOf P word → IsToldOf Q word
+word_weaker P Q f (tell.Learned x amac ip) is = f x is
+word_weaker P Q f word is = tt
+
+pub words_weaker : (P Q : Pmac → Type 0) → ((x : Pmac) → P x → Q x) → (words : List ToManager) → AllByRecursion (IsToldOf P) words → AllByRecursion (IsToldOf Q) words
+words_weaker P Q f [] all = tt
+words_weaker P Q f (word ∷ words) all = (word_weaker P Q f word all.0, words_weaker P Q f words all.1)
+
+-- of one part and the next
+pub told_both : (P : Pmac → Type 0) (xs ys : List Act) → AreToldOf P xs → AreToldOf P ys → AreToldOf P (xs ++ ys)
+told_both P xs ys a b = subst (λ ws. AllByRecursion (IsToldOf P) ws) (sym (told_append xs ys)) (all_append (IsToldOf P) (told_by xs) (told_by ys) a b)

@@ -6,12 +6,13 @@ use Rattle.pl_lemmas.proofs.Exports.{all_append}
 use Rattle.pl_pmac.specs.declared.pmac.Pmac.{Pmac}
 use Rattle.pl_node.specs.declared.acts.Act.{Act}
 use Rattle.pl_node.specs.declared.acts.Act.TheVariants as act
+use Rattle.pl_node.specs.declared.messages.ToManager.{ToManager}
 use Rattle.pl_node.specs.ManagerViews.{Learnt}
 use Rattle.pl_node.specs.SwitchViews.{SwitchView}
 use Rattle.pl_journal.specs.declared.cause.Cause.{Cause}
 use Rattle.pl_journal.specs.declared.cause.Cause.TheVariants.{LinkDown}
 use Rattle.pl_journal.specs.declared.entry.Entry.{Entry}
-use Rattle.pl_journal.specs.declared.entry.Entry.TheVariants.{Copied, Crossed, Dropped, Granted, Made, Placed, Redirected, Taken}
+use Rattle.pl_journal.specs.declared.entry.Entry.TheVariants.{Copied, Crossed, Dropped, Freed, Granted, Made, Placed, Redirected, Taken}
 use Rattle.pl_layouts.specs.Placement.{same_place}
 use Rattle.pl_wiring.specs.Plan.{Plan}
 use Rattle.pl_world.specs.declared.item.Item.{Item}
@@ -23,7 +24,8 @@ use Rattle.pl_world.specs.Changes.{all_noted, begun_by, ends_of, host_no, host_o
 use Rattle.pl_world.specs.SwitchActs.{DuringActs, act_done, acts_done, begins, crossed_again, ended, granted, passed, redirected, switch_stepped, with_late}
 use Rattle.pl_world.specs.Worlds.{WorldView}
 use Rattle.pl_law_ledger.specs.Ledgers.{ledger}
-use Rattle.pl_law_ledger.proofs.Giving.{Giving, givings}
+use Rattle.pl_law_addresses.proofs.Exports.{all_put, told_by}
+use Rattle.pl_law_ledger.proofs.Giving.{FreesNone, Giving, givings}
 
 -- ---- entries that say nothing of addresses
 abbrev pub IsNoGrantEntry : Entry → Type 0
@@ -58,10 +60,11 @@ pub record Parts : Type 0 where
   pub learnt : Learnt
   pub switches : List SwitchView
   pub attachments : List AttachmentPoint
+  pub up : List (List ToManager)
   pub entries : List Entry
 
 abbrev pub parts_of : WorldView → Parts
-parts_of w = record { plan = w.plan; learnt = w.manager.learnt; switches = w.switches; attachments = w.attachments; entries = written w.journal }
+parts_of w = record { plan = w.plan; learnt = w.manager.learnt; switches = w.switches; attachments = w.attachments; up = w.to_manager; entries = written w.journal }
 
 pub quiet_parts : (w : WorldView) (entries : List Entry) → AreNoGrantEntries entries → parts_of (all_noted w entries) ≡ parts_of w
 quiet_parts w entries quiet = ap (λ es. let p : Parts = record (parts_of w) { entries = es } in p) (quiet_written w.journal entries quiet)
@@ -78,8 +81,22 @@ abbrev pub all_written : Plan → ℕ → List Entry → List Giving → List En
 all_written plan s entries [] = entries
 all_written plan s entries (g ∷ gs) = all_written plan s (entry_for s entries g.pmac (host_of plan g.mac)) gs
 
+-- and what acts write: what they grant, and what they free
+abbrev pub all_entered : Plan → ℕ → List Entry → List Act → List Entry
+all_entered plan s entries [] = entries
+all_entered plan s entries (act.Grant x mac ∷ acts) = all_entered plan s (entry_for s entries x (host_of plan mac)) acts
+all_entered plan s entries (act.Free x ∷ acts) = all_entered plan s (Freed x ∷ entries) acts
+all_entered plan s entries (act ∷ acts) = all_entered plan s entries acts
+
+pub none_freed : (plan : Plan) (s : ℕ) (entries : List Entry) (acts : List Act) → AllByRecursion FreesNone acts →
+    all_entered plan s entries acts ≡ all_written plan s entries (givings acts)
+none_freed plan s entries [] none = refl
+none_freed plan s entries (act.Grant x mac ∷ acts) none = none_freed plan s (entry_for s entries x (host_of plan mac)) acts none.1
+none_freed plan s entries (act.Free x ∷ acts) none = absurd none.0
+none_freed plan s entries (a ∷ acts) none = none_freed plan s entries acts none.1
+
 abbrev with_acts : ℕ → Parts → List Act → Parts
-with_acts s p acts = record p { entries = all_written p.plan s p.entries (givings acts) }
+with_acts s p acts = record p { up = all_put s p.up (told_by acts); entries = all_entered p.plan s p.entries acts }
 
 grant_parts : (w : WorldView) (s : ℕ) (x : Pmac) (h : Option ℕ) → parts_of (granted w s x h) ≡ record (parts_of w) { entries = entry_for s (written w.journal) x h }
 grant_parts w s x None = refl
@@ -142,13 +159,18 @@ done_first s d a acts same silent rest = record {
 
 acts_parts : (s : ℕ) (d : DuringActs) (acts : List Act) → AreNoGrantEntries d.late → Done s d acts
 acts_parts s d [] quiet = record { parts = refl; late = quiet }
-acts_parts s d (act.Tell told ∷ acts) quiet = done_first s d (act.Tell told) acts refl (λ p. refl) (acts_parts s (act_done s d (act.Tell told)) acts quiet)
+acts_parts s d (act.Tell told ∷ acts) quiet = let rest = acts_parts s (act_done s d (act.Tell told)) acts quiet in record { parts = rest.parts; late = rest.late }
 acts_parts s d (act.Control port frame ∷ acts) quiet =
     done_first s d (act.Control port frame) acts refl (λ p. refl) (acts_parts s (act_done s d (act.Control port frame)) acts quiet)
 acts_parts s d (act.Grant x mac ∷ acts) quiet =
     let rest = acts_parts s (act_done s d (act.Grant x mac)) acts quiet in
     let now : parts_of (act_done s d (act.Grant x mac)).world ≡ record (parts_of d.world) { entries = entry_for s (written d.world.journal) x (host_of d.world.plan mac) } =
     grant_parts d.world s x (host_of d.world.plan mac) in
+    record { parts = rest.parts ∙ ap (λ (p : Parts). with_acts s p acts) now; late = rest.late }
+acts_parts s d (act.Free x ∷ acts) quiet =
+    let rest = acts_parts s (act_done s d (act.Free x)) acts quiet in
+    let now : parts_of (act_done s d (act.Free x)).world ≡ record (parts_of d.world) { entries = Freed x ∷ written d.world.journal } =
+    ap (λ es. let p : Parts = record (parts_of d.world) { entries = es } in p) (one_written d.world.journal (Freed x)) in
     record { parts = rest.parts ∙ ap (λ (p : Parts). with_acts s p acts) now; late = rest.late }
 acts_parts s d (act.Make frame ∷ acts) quiet =
     done_first s d (act.Make frame) acts
@@ -168,9 +190,10 @@ acts_parts s d (act.Drop cause ∷ acts) quiet =
     done_first s d (act.Drop cause) acts (end_parts s d (λ id. Dropped id cause) d.speech (λ id past. refl)) (λ p. refl)
     (acts_parts s (act_done s d (act.Drop cause)) acts (end_late s d (λ id. Dropped id cause) d.speech quiet))
 
--- a step of a switch changes its view, and writes of addresses what its acts grant
+-- a step of a switch changes its view, tells the manager what its acts tell, and writes of addresses what its acts grant and free
 pub stepped_parts : (w : WorldView) (s : ℕ) (before after : SwitchView) (speech : SpokenFrame) (acts : List Act) →
-    parts_of (switch_stepped w s before after speech acts) ≡ record (parts_of w) { switches = set w.switches s after; entries = all_written w.plan s (written w.journal) (givings acts) }
+    parts_of (switch_stepped w s before after speech acts)
+    ≡ record (parts_of w) { switches = set w.switches s after; up = all_put s w.to_manager (told_by acts); entries = all_entered w.plan s (written w.journal) acts }
 stepped_parts w s before after speech acts =
     let d = begins (record w { switches = set w.switches s after }) speech in
     let done = acts_parts s d acts tt in

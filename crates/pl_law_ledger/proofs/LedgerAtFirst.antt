@@ -48,7 +48,8 @@ boot_ledger plan limits = record {
       subst (λ (st : AttachmentPoint). has_stood plan [] h (at_port st.edge.0 st.port) ≡ true) it.2
       (ap (λ (o : Option Host). is_at (option_map (λ (q : Host). at_port q.edge.0 q.port) o) (at_port it.0.edge.0 it.0.port)) it.1
       ∙ and_from (it.0.edge.0 == it.0.edge.0) (it.0.port == it.0.port) (eq-eqb it.0.edge.0 it.0.edge.0 refl) (eq-eqb it.0.port it.0.port refl));
-  numbers = λ x fits. refl;
+  numbers = λ x n fits is. absurd (none-some n is);
+  unnumbered = λ s x fits any none. refl;
   numbered = λ n m is. absurd (none-some m is);
   count = refl;
 }

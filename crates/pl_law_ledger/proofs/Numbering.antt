@@ -2,6 +2,7 @@
 use Rattle.std.proofs.Common.{◌≡◌, ◌⊎◌, ◌+◌, ◌==◌, ℕ, true, false, cond, List, [], ◌∷◌, ◌++◌, fold, map, Option, Some, None, option_map, unwrap_or, refl, sym, ap, subst, ◌∙◌, inl, inr, append_assoc}
 use Rattle.std.specs.List.{flat_map, list_any}
 use Rattle.std.proofs.lemmas.Bool.{cases_Bool, cond-false, cond-true, eq-eqb, false≢true, ne_eqb, eqb-true}
+use Rattle.std.proofs.lemmas.Option.{none-some}
 use Rattle.pl_frame.specs.declared.address.Ip4.{Ip4}
 use Rattle.pl_frame.specs.declared.address.Mac.{Mac}
 use Rattle.pl_frame.specs.declared.address.SwitchId.{SwitchId}
@@ -15,19 +16,22 @@ use Rattle.pl_node.specs.declared.messages.ToManager.{ToManager}
 use Rattle.pl_node.specs.declared.messages.ToManager.TheVariants as tell
 use Rattle.pl_node.specs.declared.messages.ToSwitch.{ToSwitch}
 use Rattle.pl_node.specs.declared.messages.ToSwitch.TheVariants as say
-use Rattle.pl_node.specs.ManagerViews.{Learnt, ManagerView, Registration, lookup, newest, pod_given, registry}
+use Rattle.pl_node.specs.ManagerViews.{Learnt, ManagerView, Registration, lookup, newest, pod_given, registration, registry}
 use Rattle.pl_node.specs.ManagerFacts.{groups}
 use Rattle.pl_node.specs.SwitchViews.{SwitchView}
 use Rattle.pl_journal.specs.declared.entry.Entry.{Entry}
 use Rattle.pl_journal.specs.declared.entry.Entry.TheVariants.{Registered}
 use Rattle.pl_journal.specs.Places.{number, holder}
 use Rattle.pl_manager_rule.specs.Histories.{Word, known}
-use Rattle.pl_manager_rule.specs.ManagerRule.{answer_to, avoid_acts, changed, changed_of_group, invalidation, learning, manager_hears, tree_acts, tree_acts_of, view_after}
+use Rattle.pl_manager_rule.specs.ManagerRule.{answer_to, avoid_acts, changed, changed_of_group, hears_aged, invalidation, learning, manager_hears, tree_acts, tree_acts_of, view_after}
 use Rattle.pl_wiring.specs.Plan.{Plan}
 use Rattle.pl_world.specs.declared.attachment.AttachmentPoint.{AttachmentPoint}
 use Rattle.pl_world.specs.Changes.{said_to}
 use Rattle.pl_world.specs.OtherActs.{manager_act_done}
 use Rattle.pl_world.specs.Worlds.{WorldView}
+use Rattle.pl_manager_rule.proofs.Exports.{AreReleases, aged_count, aged_releases, aged_was}
+use Rattle.pl_queues.specs.Queues.{items_at}
+use Rattle.pl_law_addresses.specs.EdgeAddresses.{tells}
 use Rattle.pl_law_addresses.specs.Registries.{number_of, registry_of}
 use Rattle.pl_law_addresses.proofs.Exports.{again, first, is_or_other, same_by}
 use Rattle.pl_law_ledger.specs.Ledgers.{AreEntered}
@@ -103,9 +107,16 @@ pub record LearnsOne (before after : Learnt) (ns : List Numbering) (x : Pmac) : 
   pub at : (y : Pmac) → same_pmac x y ≡ false → number_of (registry_of after) y ≡ number_of (registry_of before) y
   pub count : after.count ≡ before.count + 1
 
--- what comes of a word: nothing is learnt, or the address that it names
+-- some addresses may be forgotten
+pub record LearnsLess (before after : Learnt) (ns : List Numbering) : Type 0 where
+  pub none : ns ≡ []
+  pub was : (y : Pmac) (n : ℕ) → number_of (registry_of after) y ≡ Some n → number_of (registry_of before) y ≡ Some n
+  pub count : after.count ≡ before.count
+
+-- what comes of a word: nothing is learnt, or the address that it names; or addresses are released
 abbrev pub LearnsBy : ToManager → Learnt → Learnt → List Numbering → Type 0
 LearnsBy (tell.Learned x mac ip) before after ns = LearnsNothing before after ns ⊎ LearnsOne before after ns x
+LearnsBy (tell.Aged x number) before after ns = LearnsLess before after ns
 LearnsBy says before after ns = LearnsNothing before after ns
 
 module _ (k : ℕ) (words : List Word) (id : SwitchId) where
@@ -151,9 +162,34 @@ module _ (k : ℕ) (words : List Word) (id : SwitchId) where
       none_invalidated after n None = refl
       none_invalidated after n (Some old) = refl
 
+  -- releases give no number
+  none_released : (acts : List ManagerAct) → AreReleases (known k words).learnt acts → numberings acts ≡ []
+  none_released [] all = refl
+  none_released (Number x n ∷ acts) all = let e : Number x n ≡ Say all.0.reg.switch (say.Release all.0.pmac) = all.0.is in absurd (cc)
+  none_released (Say to says ∷ acts) all = none_released acts all.1
+
+  address_aged : (x : Pmac) (n : ℕ) →
+      let learnt = (known k words).learnt in
+      let after = view_after (known k words) id (tell.Aged x n) in
+      LearnsLess learnt after.learnt (numberings ((hears_aged learnt x n).acts ++ avoid_acts (known k words).told after.told ++ tree_acts (known k words) after))
+  address_aged x n =
+      let learnt = (known k words).learnt in
+      let after = view_after (known k words) id (tell.Aged x n) in
+      record {
+        none = reply_alone (hears_aged learnt x n).acts (known k words) after ∙ none_released (hears_aged learnt x n).acts (aged_releases learnt x n);
+        was = λ y m is. was_numbered y m (registration (hears_aged learnt x n).learnt y) refl is;
+        count = aged_count learnt x n;
+      }
+    where
+      was_numbered : (y : Pmac) (m : ℕ) (o : Option Registration) → registration (hears_aged (known k words).learnt x n).learnt y ≡ o →
+          option_map (λ (r : Registration). r.number) o ≡ Some m → number_of (registry_of (known k words).learnt) y ≡ Some m
+      was_numbered y m None is none = absurd (none-some m none)
+      was_numbered y m (Some reg) is some = ap (option_map (λ (r : Registration). r.number)) (aged_was (known k words).learnt x n y reg is) ∙ some
+
   pub learns : (says : ToManager) → LearnsBy says (known k words).learnt (manager_hears (known k words) id says).view.learnt (numberings (manager_hears (known k words) id says).acts)
   unfolding manager_hears
   learns (tell.Learned x mac ip) = address_learnt x mac ip
+  learns (tell.Aged x n) = address_aged x n
   learns (tell.Place place) = nothing_learnt (tell.Place place) [] (view_after (known k words) id (tell.Place place)) refl refl
   learns (tell.Link u usable) = nothing_learnt (tell.Link u usable) [] (view_after (known k words) id (tell.Link u usable)) refl refl
   learns tell.PodWanted =
@@ -164,22 +200,43 @@ module _ (k : ℕ) (words : List Word) (id : SwitchId) where
   learns (tell.Members group any) = nothing_learnt (tell.Members group any) [] (view_after (known k words) id (tell.Members group any)) refl refl
 
 -- ---- the ledger once that is written
-module _ (plan : Plan) (learnt after : Learnt) (switches : List SwitchView) (attachments : List AttachmentPoint) (entries : List Entry) (before : AreEntered plan learnt switches attachments entries) where
-  pub nothing_entered : (ns : List Numbering) → LearnsNothing learnt after ns → AreEntered plan after switches attachments (all_numbered entries ns)
-  nothing_entered ns l = subst (λ ms. AreEntered plan after switches attachments (all_numbered entries ms)) (sym l.none) (record {
+module _ (plan : Plan) (learnt after : Learnt) (switches : List SwitchView) (attachments : List AttachmentPoint) (up left : List (List ToManager)) (entries : List Entry)
+    (before : AreEntered plan learnt switches attachments up entries)
+    (fewer : (s : ℕ) (x : Pmac) → list_any (tells x) (items_at left s) ≡ true → list_any (tells x) (items_at up s) ≡ true) where
+  pub nothing_entered : (ns : List Numbering) → LearnsNothing learnt after ns → AreEntered plan after switches attachments left (all_numbered entries ns)
+  nothing_entered ns l = subst (λ ms. AreEntered plan after switches attachments left (all_numbered entries ms)) (sym l.none) (record {
     grants = before.grants;
     last = before.last;
     backed = before.backed;
     few = before.few;
     sources = before.sources;
     standing = before.standing;
-    numbers = λ x fits. before.numbers x fits ∙ sym (l.at x);
+    numbers = λ x n fits is. before.numbers x n fits (sym (l.at x) ∙ is);
+    unnumbered = λ s x fits tells none. before.unnumbered s x fits (fewer s x tells) (sym (l.at x) ∙ none);
     numbered = before.numbered;
     count = before.count ∙ sym l.count;
   })
 
-  pub one_entered : (ns : List Numbering) (x : Pmac) → PmacFits x → (h : ℕ) × (holder entries (pmac_number x) ≡ Some h) → LearnsOne learnt after ns x → AreEntered plan after switches attachments (all_numbered entries ns)
-  one_entered ns x fits_x held l = subst (λ ms. AreEntered plan after switches attachments (all_numbered entries ms)) (sym l.one) (record {
+  -- what is released waits for nothing
+  pub less_entered : (ns : List Numbering) → LearnsLess learnt after ns →
+      ((s : ℕ) (x : Pmac) → list_any (tells x) (items_at left s) ≡ true → number_of (registry_of after) x ≡ None → number_of (registry_of learnt) x ≡ None) →
+      AreEntered plan after switches attachments left (all_numbered entries ns)
+  less_entered ns l silent = subst (λ ms. AreEntered plan after switches attachments left (all_numbered entries ms)) (sym l.none) (record {
+    grants = before.grants;
+    last = before.last;
+    backed = before.backed;
+    few = before.few;
+    sources = before.sources;
+    standing = before.standing;
+    numbers = λ x n fits is. before.numbers x n fits (l.was x n is);
+    unnumbered = λ s x fits tells none. before.unnumbered s x fits (fewer s x tells) (silent s x tells none);
+    numbered = before.numbered;
+    count = before.count ∙ sym l.count;
+  })
+
+  pub one_entered : (ns : List Numbering) (x : Pmac) → PmacFits x → (h : ℕ) × (holder entries (pmac_number x) ≡ Some h) → LearnsOne learnt after ns x →
+      AreEntered plan after switches attachments left (all_numbered entries ns)
+  one_entered ns x fits_x held l = subst (λ ms. AreEntered plan after switches attachments left (all_numbered entries ms)) (sym l.one) (record {
     grants = λ s v y g found is. let e = before.grants s v y g found is in record { host = e.host; of_mac = e.of_mac; held = e.held; live = e.live; there = e.there; for_hosts = e.for_hosts };
     last = before.last;
     backed = (tt, before.backed);
@@ -187,14 +244,15 @@ module _ (plan : Plan) (learnt after : Learnt) (switches : List SwitchView) (att
     sources = λ s v port source found is.
         let h = before.sources s v port source found is in record { host = h.host; of_mac = h.of_mac; stood = h.stood; for_hosts = h.for_hosts };
     standing = before.standing;
-    numbers = λ y fits. elim (is_or_other x y) [
+    numbers = λ y n fits is. elim (is_or_other x y) [
       | inl same ↦
           cond-true (pmac_number x == pmac_number y) (Some (learnt.count + 1)) (number entries (pmac_number y)) (eq-eqb (pmac_number x) (pmac_number y) (ap pmac_number same))
-          ∙ sym l.here ∙ ap (λ z. number_of (registry_of after) z) same
-      | inr other ↦
-          cond-false (pmac_number x == pmac_number y) (Some (learnt.count + 1)) (number entries (pmac_number y))
-          (ne_eqb (pmac_number x) (pmac_number y) (λ same. false≢true (sym other ∙ same_by x y (same_pmac_number x y fits_x fits same))))
-          ∙ before.numbers y fits ∙ sym (l.at y other)
+          ∙ sym l.here ∙ ap (λ z. number_of (registry_of after) z) same ∙ is
+      | inr other ↦ apart y fits other ∙ before.numbers y n fits (sym (l.at y other) ∙ is)
+    ];
+    unnumbered = λ s y fits tells none. elim (is_or_other x y) [
+      | inl same ↦ absurd (none-some (learnt.count + 1) (sym none ∙ ap (λ z. number_of (registry_of after) z) (sym same) ∙ l.here))
+      | inr other ↦ apart y fits other ∙ before.unnumbered s y fits (fewer s y tells) (sym (l.at y other) ∙ none)
     ];
     numbered = λ n m is. elim (cases_Bool (pmac_number x == n)) [
       | inl same ↦ (held.0, ap (λ k. holder entries k) (sym (eqb-true (pmac_number x) n same)) ∙ held.1)
@@ -202,3 +260,8 @@ module _ (plan : Plan) (learnt after : Learnt) (switches : List SwitchView) (att
     ];
     count = ap (λ n. n + 1) before.count ∙ sym l.count;
   })
+    where
+      apart : (y : Pmac) → PmacFits y → same_pmac x y ≡ false → cond (pmac_number x == pmac_number y) (Some (learnt.count + 1)) (number entries (pmac_number y)) ≡ number entries (pmac_number y)
+      apart y fits other =
+          cond-false (pmac_number x == pmac_number y) (Some (learnt.count + 1)) (number entries (pmac_number y))
+          (ne_eqb (pmac_number x) (pmac_number y) (λ same. false≢true (sym other ∙ same_by x y (same_pmac_number x y fits_x fits same))))

@@ -1,53 +1,78 @@
 -- What an edge switch grants to sources, and what it remembers of them.
-use Rattle.std.proofs.Common.{◌≡◌, ◌<◌, ℕ, true, not, ◌&&◌, List, [], ◌∷◌, Option, Some, None, refl, sym, ap, subst, ◌∙◌, arith}
+use Rattle.std.proofs.Common.{◌≡◌, ◌<◌, ◌-◌, ℕ, true, not, ◌&&◌, set, List, [], ◌∷◌, Option, Some, None, refl, sym, ap, subst, ◌∙◌, arith}
 use Rattle.std.specs.List.{AllByRecursion}
 use Rattle.std.proofs.lemmas.Bool.{and_from, and_parts}
 use Rattle.std.proofs.lemmas.Option.{none-some, same_Some}
+use Rattle.pl_pmac.specs.declared.pmac.Pmac.{Pmac}
 use Rattle.pl_frame.specs.declared.address.Ip4.{Ip4}
 use Rattle.pl_frame.specs.declared.address.Mac.{Mac}
 use Rattle.pl_frame.specs.Ethernet.{source_of}
 use Rattle.pl_layouts.specs.declared.place.Place.{Place}
 use Rattle.pl_layouts.specs.Placement.{is_known, is_placed}
+use Rattle.pl_node.specs.AddressUses.{is_held, is_in_use}
+use Rattle.pl_node.specs.declared.acts.Act.{Act}
 use Rattle.pl_node.specs.declared.acts.Act.TheVariants as act
+use Rattle.pl_node.specs.declared.address_use.AddressUse.TheVariants.{InUse}
 use Rattle.pl_node.specs.declared.messages.ToManager.TheVariants as tell
 use Rattle.pl_node.specs.declared.switch_records.Grant.{Grant}
 use Rattle.pl_node.specs.declared.switch_records.Source.{Source}
 use Rattle.pl_node.specs.PortRecords.{ports_of_switch}
 use Rattle.pl_node.specs.SwitchViews.{SwitchView}
 use Rattle.pl_steps.specs.Steps.{does, rests, ◌▹◌}
-use Rattle.pl_switch_rule.specs.Granting.{address_at_port, forgets, grants_at, grants_next, grants_or_learns, grants_remembered, grants_source, in_use, is_port_spent, learns_ip, learns_source, or_else, remembered_at, remembered_ip, remembers, sender_ip, with_grant}
+use Rattle.pl_switch_rule.specs.Granting.{address_at_port, behind, forgets, freed_at, granted, grants_at, grants_or_learns, grants_remembered, grants_source, in_use, is_local, learns_ip, learns_source, next_vmid, or_else, remembered_at, remembered_ip, remembers, sender_ip, uses, with_grants}
 use Rattle.pl_switch_rule.specs.Levels.{changes_to, has_become_placed, settles_in}
 use Rattle.pl_switch_rule.specs.Telling.{changes_told}
 use Rattle.pl_switch_rule.proofs.Exports.{all_range}
+use Rattle.pl_law_phases.proofs.Exports.{in_use_for}
 use Rattle.pl_law_addresses.specs.EdgeAddresses.{is_settled}
 use Rattle.pl_law_addresses.proofs.Exports.{aside_does, changes_silent, granted_here, IsInUse, local_here, used_is}
-use Rattle.pl_law_ledger.proofs.Takes.{AreOf, Takes, aside_takes, changed_takes, next_takes, put_takes, rests_takes, takes_either, takes_then}
+use Rattle.pl_law_ledger.proofs.Giving.{AreToldOf, FreesNone, givings}
+use Rattle.pl_law_ledger.proofs.Takes.{AreOf, Takes, aside_takes, changed_takes, grants_next_takes, put_takes, rests_takes, takes_either, takes_then}
+use Rattle.pl_law_ledger.proofs.Using.{IsUsedAt}
 use Rattle.pl_layouts.specs.Equality.{is_ip}
 
 module _ (P : ℕ → Mac → Type 0) where
-  -- the IPv4 address of an address in use
-  known_takes : (v : SwitchView) (port vmid : ℕ) (mac : Mac) (ip : Option Ip4) → is_settled v.place ≡ true → port < v.k → (u : IsInUse (grants_at v port) mac vmid) →
-      Takes P v (learns_ip v (address_at_port v port vmid) (Some u.grant) ip)
-  known_takes v port vmid mac None settled within u = rests_takes P v
-  known_takes v port vmid mac (Some ip) settled within u =
-      let here = local_here v port vmid settled in
-      takes_either P v (is_ip u.grant.ip ip) (rests v)
-      (record { view = with_grant v (address_at_port v port vmid) (record u.grant { ip = Some ip }); acts = act.Tell (tell.Learned (address_at_port v port vmid) u.grant.amac (Some ip)) ∷ [] })
-      (λ same. rests_takes P v)
-      (λ new. changed_takes P v (address_at_port v port vmid) u.grant (record u.grant { ip = Some ip }) here settled within
-      (granted_here v (address_at_port v port vmid) here ∙ u.found) refl refl
-      (record { view = with_grant v (address_at_port v port vmid) (record u.grant { ip = Some ip }); acts = act.Tell (tell.Learned (address_at_port v port vmid) u.grant.amac (Some ip)) ∷ [] })
-      refl refl)
+  -- an address in use is used, and maybe its IPv4 address is told
+  module _ (v : SwitchView) (port vmid : ℕ) (mac : Mac) (settled : is_settled v.place ≡ true) (within : port < v.k) (u : IsInUse (grants_at v port) mac vmid) where
+    abbrev old : Pmac
+    old = address_at_port v port vmid
+
+    here : is_local v old ≡ true
+    here = local_here v port vmid settled
+
+    was : granted v old ≡ Some u.grant
+    was = granted_here v old here ∙ u.found
+
+    held : is_held u.grant.held ≡ true
+    held = ap is_held (in_use_for u.grant.held u.used).1
+
+    used_takes : (known : Grant) → known.amac ≡ u.grant.amac → known.held ≡ InUse 0 → (acts : List Act) → givings acts ≡ [] → AllByRecursion FreesNone acts →
+        AreToldOf (λ y. (m : Mac) × IsUsedAt v y m) acts →
+        Takes P v (record { view = record (with_grants v port (set (grants_at v port) (vmid - 1) known)) { used = behind old v.used }; acts = acts })
+    used_takes known same used acts none frees told =
+        changed_takes P v old u.grant known here settled within was same held (ap is_held used) (ap is_in_use used ∙ sym u.used)
+        (record (with_grants v port (set (grants_at v port) (vmid - 1) known)) { used = behind old v.used }) acts refl none frees told
+
+    again_takes : Takes P v (rests (uses v old u.grant))
+    again_takes = used_takes (record u.grant { held = InUse 0 }) refl refl [] refl tt tt
+
+    known_takes : (ip : Option Ip4) → Takes P v (learns_ip v old (Some u.grant) ip)
+    known_takes None = again_takes
+    known_takes (Some ip) =
+        let said = act.Tell (tell.Learned old u.grant.amac (Some ip)) ∷ [] in
+        takes_either P v (is_ip u.grant.ip ip) (rests (uses v old u.grant)) (record { view = uses v old (record u.grant { ip = Some ip }); acts = said })
+        (λ same. again_takes)
+        (λ new. used_takes (record u.grant { ip = Some ip; held = InUse 0 }) refl refl said refl (tt, tt)
+        ((u.grant.amac, record { grant = u.grant; found = was; used = u.used; to = refl }), tt))
 
   -- a source at a port of a placed edge switch
   source_takes : (v : SwitchView) (port : ℕ) (mac : Mac) (ip : Option Ip4) → is_settled v.place ≡ true → port < v.k → P port mac → (o : Option ℕ) →
       in_use (grants_at v port) mac ≡ o → Takes P v (grants_or_learns v port mac ip o)
   source_takes v port mac ip settled within of_it (Some vmid) is =
       let u = used_is (grants_at v port) mac vmid is in
-      subst (λ (o : Option Grant). Takes P v (learns_ip v (address_at_port v port vmid) o ip)) (sym u.found) (known_takes v port vmid mac ip settled within u)
+      subst (λ (o : Option Grant). Takes P v (learns_ip v (address_at_port v port vmid) o ip)) (sym u.found) (known_takes v port vmid mac settled within u ip)
   source_takes v port mac ip settled within of_it None is =
-      takes_either P v (is_port_spent v port) (rests v) (grants_next v port mac ip) (λ spent. rests_takes P v)
-      (λ room. next_takes P v port mac ip settled within room of_it is)
+      grants_next_takes P v port mac ip settled within of_it is (next_vmid (freed_at v port) (grants_at v port)) refl
 
   grants_takes : (v : SwitchView) (port : ℕ) (mac : Mac) (ip : Option Ip4) → is_settled v.place ≡ true → port < v.k → P port mac →
       Takes P v (grants_or_learns v port mac ip (in_use (grants_at v port) mac))

@@ -1,5 +1,5 @@
 -- What each row of a switch grants and remembers.
-use Rattle.std.proofs.Common.{◌≡◌, ◌<◌, ◌≤◌, ◌||◌, ℕ, true, false, List, [], ◌∷◌, length, Option, Some, None, Result, Ok, Err, get_or, refl, sym, ap, subst, ◌∙◌, inl, inr}
+use Rattle.std.proofs.Common.{◌≡◌, ◌⊎◌, ◌<◌, ◌≤◌, ◌||◌, ℕ, nat_lt, Bool, true, false, cond, List, [], ◌∷◌, length, Option, Some, None, Result, Ok, Err, get_or, refl, sym, ap, subst, ◌∙◌, inl, inr}
 use Rattle.std.proofs.lemmas.Bool.{cases_Bool, cond_both, false≢true}
 use Rattle.std.proofs.lemmas.Option.{none-some}
 use Rattle.pl_frame.specs.declared.address.Ip4.{Ip4}
@@ -15,8 +15,9 @@ use Rattle.pl_layouts.specs.Placement.{is_known}
 use Rattle.pl_node.specs.declared.acts.Act.TheVariants as act
 use Rattle.pl_node.specs.declared.messages.ToSwitch.{ToSwitch}
 use Rattle.pl_node.specs.declared.messages.ToSwitch.TheVariants as say
-use Rattle.pl_node.specs.AddressUses.{standing_trap}
-use Rattle.pl_node.specs.declared.address_use.AddressUse.TheVariants.{Trapped}
+use Rattle.pl_node.specs.AddressUses.{is_held, standing_trap}
+use Rattle.pl_node.specs.declared.address_use.AddressUse.{AddressUse}
+use Rattle.pl_node.specs.declared.address_use.AddressUse.TheVariants.{Free, InUse, Resting, Trapped}
 use Rattle.pl_node.specs.declared.switch_records.Grant.{Grant}
 use Rattle.pl_node.specs.declared.switch_records.Source.{Source}
 use Rattle.pl_node.specs.declared.trap.Trap.{Trap}
@@ -24,25 +25,25 @@ use Rattle.pl_node.specs.PortRecords.{is_open_to_hosts, port_of, with_port}
 use Rattle.pl_node.specs.SwitchInputs.{SwitchInput}
 use Rattle.pl_node.specs.SwitchInputs.SwitchInput.{Comes, Says, Tick}
 use Rattle.pl_node.specs.SwitchViews.{SwitchView}
-use Rattle.pl_node.specs.Traps.{newer_trap}
 use Rattle.pl_journal.specs.declared.cause.Cause.TheVariants as cause
 use Rattle.pl_steps.specs.Steps.{SwitchStep, does, rests, ◌▹◌}
-use Rattle.pl_switch_rule.specs.Announcing.{ticks}
 use Rattle.pl_switch_rule.specs.Delivering.{makes}
 use Rattle.pl_switch_rule.specs.Forwarding.{Choice}
-use Rattle.pl_switch_rule.specs.Granting.{granted, is_granted, learns_source}
+use Rattle.pl_switch_rule.specs.Granting.{freed_at, granted, grants_at, is_granted, learns_source, unless_free}
 use Rattle.pl_switch_rule.specs.Intake.{comes_from_host, takes_in_or_spent}
 use Rattle.pl_switch_rule.specs.Levels.{after_message, becomes_edge, changes_to, finds_host, with_pod}
-use Rattle.pl_switch_rule.specs.Messages.{answer_frame, flood_frame, floods, forgets_members, hears_manager, invalidates, probes, sets_trap, takes_pod}
+use Rattle.pl_switch_rule.specs.Messages.{answer_frame, becomes_free, flood_frame, floods, forgets_members, frees, frees_at, hears_manager, invalidates, probes, sets_trap, sets_trap_over, takes_pod, with_trap}
 use Rattle.pl_switch_rule.specs.Positions.{after_vote}
 use Rattle.pl_switch_rule.specs.SwitchRule.{comes_from_switch, control_comes, data_comes, hears_control, switch_step}
 use Rattle.pl_switch_rule.proofs.Exports.{granted_parts, none_granted}
-use Rattle.pl_law_addresses.specs.EdgeAddresses.{IsGrantedTo, is_settled}
+use Rattle.pl_law_addresses.specs.EdgeAddresses.{is_settled}
+use Rattle.pl_law_addresses.specs.FreeVmids.{AreFreeVmids}
 use Rattle.pl_law_addresses.specs.Registries.{Registry}
-use Rattle.pl_law_addresses.proofs.Exports.{aside_does, edge_placing, floods_aside, forgets_members_aside, granted_within, IsPlacing, keeps_changes, LeavesAddresses, local_settled, makes_aside, message_placing, pod_placing, probes_aside, proposal_aside, same_grantees, switch_frame_aside, takes_in_aside, ticks_aside, vote_placing}
-use Rattle.pl_law_ledger.proofs.Giving.{all_weaker, givings}
+use Rattle.pl_law_addresses.proofs.Exports.{aside_does, edge_placing, floods_aside, forgets_members_aside, granted_within, IsPlacing, keeps_changes, LeavesAddresses, local_settled, makes_aside, message_placing, pod_placing, probes_aside, proposal_aside, switch_frame_aside, takes_in_aside, told_by, vote_placing}
+use Rattle.pl_law_ledger.proofs.AgingTakes.{tick_quiets}
+use Rattle.pl_law_ledger.proofs.Giving.{all_weaker, givings, words_weaker}
 use Rattle.pl_law_ledger.proofs.Sourcing.{changes_takes, learns_takes}
-use Rattle.pl_law_ledger.proofs.Takes.{AreOf, Enters, IsListed, Takes, aside_takes, enters_aside, enters_of, rests_takes, takes_either, takes_then, unused_enters}
+use Rattle.pl_law_ledger.proofs.Takes.{AreOf, Enters, IsListed, IsToldWell, Quiets, Takes, WasGranted, aside_takes, enters_of, enters_of_quiets, quiets_aside, quiets_then, rests_takes, takes_either, takes_then, unused_quiets}
 use Rattle.pl_law_ledger.proofs.Using.{IsFirstThere, IsUsedAt, same_used}
 
 -- What is needed of what comes: a frame of a host comes at a port where its host has stood.
@@ -50,6 +51,14 @@ abbrev pub ComesWell : (ℕ → Mac → Type 0) → SwitchView → SwitchInput �
 ComesWell P v (Comes port frame) = is_control frame ≡ false → is_open_to_hosts (port_of v port) ≡ true → (port < v.k) × P port (source_of frame)
 ComesWell P v Tick = Unit {0}
 ComesWell P v (Says says) = Unit {0}
+
+-- an address that is somebody's is freed, and nothing else is done
+pub record FreesOne (v : SwitchView) (s : SwitchStep) : Type 0 where
+  pub pmac : Pmac
+  pub grant : Grant
+  pub was : granted v pmac ≡ Some grant
+  pub held : is_held grant.held ≡ true
+  pub is : s ≡ does (becomes_free v pmac grant) (act.Free pmac ∷ [])
 
 -- what comes of a change of the place leaves it so
 no_registry : Registry
@@ -63,7 +72,11 @@ module _ (P : ℕ → Mac → Type 0) where
   placing_takes : (v w : SwitchView) (s : SwitchStep) → IsPlacing v w → IsListed v → Takes P w s → Takes P v s
   placing_takes v w s p listed b = record {
     given = λ l are. b.given listed_then (λ port source is. are port source (ap (λ (ss : List (Option Source)). get_or ss port None) (sym p.remembered) ∙ is));
-    covers = λ l x g is. elim (b.covers listed_then x g is) [ inl before ↦ inl (before_that x g.amac before) | inr now ↦ inr now ];
+    covers = λ l x g is. elim (b.covers listed_then x g is) [ inl before ↦ inl (before_that x g before) | inr now ↦ inr now ];
+    there = λ l x g is. let now = after_that x g is in b.there listed_then x now.0 now.1;
+    told = λ l. words_weaker (IsToldWell w (givings s.acts)) (IsToldWell v (givings s.acts))
+        (λ x it. (it.0, elim it.1 [ inl used ↦ inl (used_before x it.0 used) | inr one ↦ inr one ])) (told_by s.acts) (b.told listed_then);
+    frees_none = b.frees_none;
     listed = λ l. b.listed listed_then;
     few = λ l few. b.few listed_then (λ port. subst (λ (gs : List (List Grant)). length (get_or gs port []) ≤ 65535) (sym p.grants) (few port));
     sources = λ are. b.sources (λ port source is. are port source (ap (λ (ss : List (Option Source)). get_or ss port None) (sym p.remembered) ∙ is));
@@ -81,17 +94,32 @@ module _ (P : ℕ → Mac → Type 0) where
       listed_then : IsListed w
       listed_then = record {
         many = ap (λ (gs : List (List Grant)). length gs) p.grants ∙ listed.many ∙ sym p.k;
+        many_freed = ap (λ (fs : List (List ℕ)). length fs) p.freed ∙ listed.many_freed ∙ sym p.k;
+        free = λ port.
+            subst (λ (fs : List ℕ). AreFreeVmids (grants_at w port) fs) (ap (λ (fs : List (List ℕ)). get_or fs port []) (sym p.freed))
+            (subst (λ (gs : List Grant). AreFreeVmids gs (freed_at v port)) (ap (λ (gs : List (List Grant)). get_or gs port []) (sym p.grants)) (listed.free port));
         empty = λ unsettled port. elim (cases_Bool (is_settled v.place)) [
           | inl settled ↦ absurd (false≢true (sym unsettled ∙ ap (λ (q : Place). is_settled q) (p.place settled) ∙ settled))
           | inr never ↦ ap (λ (gs : List (List Grant)). get_or gs port []) p.grants ∙ listed.empty never port
         ];
       }
 
-      before_that : (x : Pmac) (mac : Mac) → IsGrantedTo (λ y. granted w y) x mac → IsGrantedTo (λ y. granted v y) x mac
-      before_that x mac is = elim (cases_Bool (is_settled v.place)) [
-        | inl settled ↦ same_grantees w v (sym (p.place settled)) (sym p.grants) x mac is
+      before_that : (x : Pmac) (g : Grant) → WasGranted w x g → WasGranted v x g
+      before_that x g is = elim (cases_Bool (is_settled v.place)) [
+        | inl settled ↦ record {
+          grant = is.grant;
+          found = sym (λ i. granted (record v { place = p.place settled i; grants = p.grants i }) x) ∙ is.found;
+          to = is.to;
+          held = is.held;
+        }
         | inr never ↦
             absurd (none-some is.grant (sym (none_granted w x (ap (λ (gs : List (List Grant)). get_or gs x.port []) p.grants ∙ listed.empty never x.port)) ∙ is.found))
+      ]
+
+      after_that : (x : Pmac) (g : Grant) → granted v x ≡ Some g → (h : Grant) × (granted w x ≡ Some h)
+      after_that x g is = elim (cases_Bool (is_settled v.place)) [
+        | inl settled ↦ (g, (λ i. granted (record v { place = p.place settled i; grants = p.grants i }) x) ∙ is)
+        | inr never ↦ absurd (none-some g (sym (none_granted v x (listed.empty never x.port)) ∙ is))
       ]
 
       used_before : (x : Pmac) (mac : Mac) → IsUsedAt w x mac → IsUsedAt v x mac
@@ -142,17 +170,36 @@ module _ (P : ℕ → Mac → Type 0) where
         (λ host. host_frame port frame (well other host).0 (well other host).1)
         (λ h. aside_takes P v (comes_from_switch choose v port frame) (switch_frame_aside choose v port frame)))
 
-    recalled : (old : Pmac) (trap : Trap) (o : Option Grant) → granted v old ≡ o → Enters P v (invalidates v old trap o)
-    recalled old trap None is = enters_of P v (rests v) (rests_takes P v)
-    recalled old trap (Some g) is =
+    -- a trap is set for an address that is somebody's
+    trapped_now : (old : Pmac) (trap : Trap) (g : Grant) → granted v old ≡ Some g → is_held g.held ≡ true → Quiets P v (does (with_trap v old g trap) [])
+    trapped_now old trap g is held =
         let here = (granted_parts v old g is).0 in
+        unused_quiets P v old g (record g { held = Trapped trap 0 }) here (local_settled v old here) (granted_within v old g is listed.many) is refl held refl refl listed
+        (with_trap v old g trap) [] refl refl tt tt
+
+    trapped : (old : Pmac) (trap : Trap) (g : Grant) → granted v old ≡ Some g → is_held g.held ≡ true → (o : Option Trap) → Quiets P v (does (sets_trap_over o v old g trap) [])
+    trapped old trap g is held None = trapped_now old trap g is held
+    trapped old trap g is held (Some standing) =
+        cond_both (nat_lt trap.number standing.number) v (with_trap v old g trap) (λ (w : SwitchView). Quiets P v (does w []))
+        (λ smaller. quiets_aside P v (does v []) listed (aside_does v [] tt)) (λ larger. trapped_now old trap g is held)
+
+    recalled_one : (old : Pmac) (trap : Trap) (g : Grant) → granted v old ≡ Some g → is_held g.held ≡ true → Enters P v (invalidates v old trap (Some g))
+    recalled_one old trap g is held =
         let w : SwitchView = sets_trap v old g trap in
-        enters_aside P v (does w [] ▹ forgets_members old.port g.amac) (probes old g)
-        (enters_aside P v (does w []) (forgets_members old.port g.amac)
-        (unused_enters P v old g (record g { held = Trapped (newer_trap trap (standing_trap g.held)) 0 }) here (local_settled v old here)
-        (granted_within v old g is listed.many) is refl refl)
-        (forgets_members_aside old.port g.amac w))
-        (probes_aside old g (does w [] ▹ forgets_members old.port g.amac).view)
+        let set = trapped old trap g is held (standing_trap g.held) in
+        let forgets = forgets_members old.port g.amac in
+        let forgot = quiets_then P v (does w []) forgets set (quiets_aside P w (forgets w) set.listed (forgets_members_aside old.port g.amac w)) in
+        let after : SwitchView = (does w [] ▹ forgets).view in
+        enters_of_quiets P v (does w [] ▹ forgets ▹ probes old g)
+        (quiets_then P v (does w [] ▹ forgets) (probes old g) forgot (quiets_aside P after (probes old g after) forgot.listed (probes_aside old g after)))
+
+    recalled : (old : Pmac) (trap : Trap) (o : Option Grant) → granted v old ≡ o → Enters P v (invalidates v old trap (unless_free o))
+    recalled old trap None is = enters_of P v (rests v) (rests_takes P v)
+    recalled old trap (Some g) is = by (is_held g.held) refl
+      where
+        by : (b : Bool) → is_held g.held ≡ b → Enters P v (invalidates v old trap (cond b (Some g) None))
+        by true held = recalled_one old trap g is held
+        by false free = enters_of P v (rests v) (rests_takes P v)
 
     pod_row : (pod : ℕ) → Takes P v (hears_manager choose v (say.Pod pod))
     pod_row pod =
@@ -175,15 +222,27 @@ module _ (P : ℕ → Mac → Type 0) where
     quiet_row : (says : ToSwitch) → LeavesAddresses v (hears_manager choose v says) → Enters P v (hears_manager choose v says)
     quiet_row says a = enters_of P v (hears_manager choose v says) (aside_takes P v (hears_manager choose v says) a)
 
-    says_row : (says : ToSwitch) → Enters P v (hears_manager choose v says)
-    says_row (say.Pod pod) = enters_of P v (hears_manager choose v (say.Pod pod)) (pod_row pod)
-    says_row (say.Avoid list) = quiet_row (say.Avoid list) (record { place = refl; k = refl; grants = refl; remembered = refl; silent = tt })
-    says_row (say.Tree group part) = quiet_row (say.Tree group part) (record { place = refl; k = refl; grants = refl; remembered = refl; silent = tt })
-    says_row (say.Answer asker asker_ip ip pmac) = enters_of P v (hears_manager choose v (say.Answer asker asker_ip ip pmac)) (answer_row asker asker_ip ip pmac)
-    says_row (say.Flood asker asker_ip ip) = enters_of P v (hears_manager choose v (say.Flood asker asker_ip ip)) (flood_row asker asker_ip ip)
-    says_row (say.Invalidate old new number ip) = recalled old (record { new = new; number = number; ip = ip }) (granted v old) refl
+    -- an address that rested is freed
+    freed_at_rest : (x : Pmac) (g : Grant) → granted v x ≡ Some g → (h : AddressUse) → g.held ≡ h → Enters P v (frees_at v x g h) ⊎ FreesOne v (frees_at v x g h)
+    freed_at_rest x g was (Resting number) is = inr (record { pmac = x; grant = g; was = was; held = ap is_held is; is = refl })
+    freed_at_rest x g was (InUse idle) is = inl (enters_of P v (rests v) (rests_takes P v))
+    freed_at_rest x g was (Trapped trap age) is = inl (enters_of P v (rests v) (rests_takes P v))
+    freed_at_rest x g was Free is = inl (enters_of P v (rests v) (rests_takes P v))
 
-    pub step_takes : (input : SwitchInput) → ComesWell P v input → Enters P v (switch_step choose v input)
-    step_takes (Comes port frame) well = enters_of P v (switch_step choose v (Comes port frame)) (comes_row port frame well)
-    step_takes Tick well = enters_of P v (switch_step choose v Tick) (aside_takes P v (ticks v) (ticks_aside v))
+    released_row : (x : Pmac) (o : Option Grant) → granted v x ≡ o → Enters P v (frees v x o) ⊎ FreesOne v (frees v x o)
+    released_row x None is = inl (enters_of P v (rests v) (rests_takes P v))
+    released_row x (Some g) is = freed_at_rest x g is g.held refl
+
+    says_row : (says : ToSwitch) → Enters P v (hears_manager choose v says) ⊎ FreesOne v (hears_manager choose v says)
+    says_row (say.Pod pod) = inl (enters_of P v (hears_manager choose v (say.Pod pod)) (pod_row pod))
+    says_row (say.Avoid list) = inl (quiet_row (say.Avoid list) (record { place = refl; k = refl; grants = refl; freed = refl; remembered = refl; silent = tt }))
+    says_row (say.Tree group part) = inl (quiet_row (say.Tree group part) (record { place = refl; k = refl; grants = refl; freed = refl; remembered = refl; silent = tt }))
+    says_row (say.Answer asker asker_ip ip pmac) = inl (enters_of P v (hears_manager choose v (say.Answer asker asker_ip ip pmac)) (answer_row asker asker_ip ip pmac))
+    says_row (say.Flood asker asker_ip ip) = inl (enters_of P v (hears_manager choose v (say.Flood asker asker_ip ip)) (flood_row asker asker_ip ip))
+    says_row (say.Invalidate old new number ip) = inl (recalled old (record { new = new; number = number; ip = ip }) (granted v old) refl)
+    says_row (say.Release x) = released_row x (granted v x) refl
+
+    pub step_takes : (input : SwitchInput) → ComesWell P v input → Enters P v (switch_step choose v input) ⊎ FreesOne v (switch_step choose v input)
+    step_takes (Comes port frame) well = inl (enters_of P v (switch_step choose v (Comes port frame)) (comes_row port frame well))
+    step_takes Tick well = inl (enters_of_quiets P v (switch_step choose v Tick) (tick_quiets P v listed))
     step_takes (Says says) well = says_row says

@@ -1,6 +1,6 @@
 -- What the journal says of addresses is what the switches granted and the fabric manager registered.
-use Rattle.std.specs.Prelude.{◌≡◌, ◌≤◌, ◌<◌, ℕ, ◌^◌, true, List, [], ◌∷◌, length, reverse, Some, slice_get}
-use Rattle.std.specs.List.{AllByRecursion}
+use Rattle.std.specs.Prelude.{◌≡◌, ◌≤◌, ◌<◌, ℕ, ◌^◌, true, List, [], ◌∷◌, length, reverse, Some, None, slice_get}
+use Rattle.std.specs.List.{AllByRecursion, list_any}
 use Rattle.pl_frame.specs.declared.address.Mac.{Mac}
 use Rattle.pl_pmac.specs.declared.pmac.Pmac.{Pmac}
 use Rattle.pl_pmac.specs.Pmac.{PmacFits, pmac_number}
@@ -10,15 +10,18 @@ use Rattle.pl_wiring.specs.Plan.{Plan}
 use Rattle.pl_journal.specs.declared.entry.Entry.{Entry}
 use Rattle.pl_journal.specs.declared.entry.Entry.TheVariants.{Freed, Granted, Moved, Registered}
 use Rattle.pl_journal.specs.Places.{EdgePort, at_port, granted_at, has_stood, holder, is_live, number, registered, edge_port}
-use Rattle.pl_node.specs.AddressUses.{is_in_use}
+use Rattle.pl_node.specs.AddressUses.{is_held, is_in_use}
+use Rattle.pl_node.specs.declared.messages.ToManager.{ToManager}
 use Rattle.pl_node.specs.declared.switch_records.Grant.{Grant}
 use Rattle.pl_node.specs.declared.switch_records.Source.{Source}
 use Rattle.pl_node.specs.ManagerViews.{Learnt}
 use Rattle.pl_node.specs.SwitchViews.{SwitchView}
+use Rattle.pl_queues.specs.Queues.{items_at}
 use Rattle.pl_switch_rule.specs.Granting.{granted, grants_at, is_local, remembered_at}
 use Rattle.pl_world.specs.declared.attachment.AttachmentPoint.{AttachmentPoint}
 use Rattle.pl_world.specs.Changes.{host_of}
 use Rattle.pl_world.specs.Worlds.{WorldView}
+use Rattle.pl_law_addresses.specs.EdgeAddresses.{tells}
 use Rattle.pl_law_addresses.specs.Registries.{number_of, registry_of}
 
 -- the entries that grant, free or register an address, or move a host; the newest stands first
@@ -37,12 +40,12 @@ pub record HasStoodThere (plan : Plan) (entries : List Entry) (mac : Mac) (there
   pub stood : has_stood plan entries host there ≡ true
   pub for_hosts : peer_of plan there.edge there.port ≡ HostPort
 
--- an address that switch s granted is written down: to whom, and where
+-- an address that switch s granted is written down: to whom, and where, and whether it is free
 pub record IsEntered (plan : Plan) (entries : List Entry) (s : ℕ) (x : Pmac) (g : Grant) : Type 0 where
   pub host : ℕ
   pub of_mac : host_of plan g.amac ≡ Some host
   pub held : holder entries (pmac_number x) ≡ Some host
-  pub live : is_live entries (pmac_number x) ≡ true
+  pub live : is_live entries (pmac_number x) ≡ is_held g.held
   pub there : edge_port entries (pmac_number x) ≡ Some (at_port s x.port)
   pub for_hosts : peer_of plan s x.port ≡ HostPort
 
@@ -58,7 +61,8 @@ abbrev pub IsBacked : List SwitchView → Entry → Type 0
 IsBacked switches (Granted x h e p) = IsGrantedThere switches x e.0 p
 IsBacked switches entry = Unit {0}
 
-pub record AreEntered (plan : Plan) (learnt : Learnt) (switches : List SwitchView) (attachments : List AttachmentPoint) (entries : List Entry) : Type 0 where
+pub record AreEntered (plan : Plan)
+    (learnt : Learnt) (switches : List SwitchView) (attachments : List AttachmentPoint) (up : List (List ToManager)) (entries : List Entry) : Type 0 where
   -- each address that a switch granted is written down, and each one that is written down is granted
   pub grants : (s : ℕ) (v : SwitchView) (x : Pmac) (g : Grant) → slice_get switches s ≡ Some v → granted v x ≡ Some g → IsEntered plan entries s x g
   pub backed : AllByRecursion (IsBacked switches) entries
@@ -72,15 +76,17 @@ pub record AreEntered (plan : Plan) (learnt : Learnt) (switches : List SwitchVie
       HasStoodThere plan entries source.amac (at_port s port)
   -- where a host stands is written down
   pub standing : (h : ℕ) (attachment : AttachmentPoint) → slice_get attachments h ≡ Some attachment → has_stood plan entries h (at_port attachment.edge.0 attachment.port) ≡ true
-  -- each number that is written down was registered
-  pub numbers : (x : Pmac) → PmacFits x → number entries (pmac_number x) ≡ number_of (registry_of learnt) x
+  -- a registered address has its number there, and one that waits to be registered has none
+  pub numbers : (x : Pmac) (n : ℕ) → PmacFits x → number_of (registry_of learnt) x ≡ Some n → number entries (pmac_number x) ≡ Some n
+  pub unnumbered : (s : ℕ) (x : Pmac) → PmacFits x → list_any (tells x) (items_at up s) ≡ true → number_of (registry_of learnt) x ≡ None →
+      number entries (pmac_number x) ≡ None
   -- an address with a number was granted
   pub numbered : (n m : ℕ) → number entries n ≡ Some m → (h : ℕ) × (holder entries n ≡ Some h)
   pub count : registered entries ≡ learnt.count
 
 -- So it is in a world.
 abbrev pub IsLedger : WorldView → Type 0
-IsLedger w = AreEntered w.plan w.manager.learnt w.switches w.attachments (ledger (reverse w.journal))
+IsLedger w = AreEntered w.plan w.manager.learnt w.switches w.attachments w.to_manager (ledger (reverse w.journal))
 
 -- What is needed of other parts: pods and positions of placed edge switches are numbers of one byte.
 pub record IsOfOneByteEach (x : Pmac) : Type 0 where

@@ -105,6 +105,7 @@ leaves_acts = record {
   copied = λ id copy. tt;
   made = λ id s frame. tt;
   granted = λ pmac h s port. tt;
+  freed = λ pmac. tt;
   redirected = λ id old new. tt;
   taken = λ id s. tt;
 }

@@ -2,8 +2,8 @@
 use Rattle.std.proofs.Common.{◌≡◌, ◌<◌, ℕ, true, false, List, [], ◌∷◌, ◌++◌, Option, Some, None, refl, sym, ap, ◌∙◌, inl, inr, arith, append_assoc}
 use Rattle.pl_node.specs.declared.address_use.AddressUse.TheVariants.{InUse, Trapped, Resting, Free}
 use Rattle.pl_node.specs.declared.trap.Trap.{Trap}
-use Rattle.pl_node.specs.ManagerViews.{Recall, Registration}
-use Rattle.pl_law_phases.specs.Phases.{IsLate, Phase, learns, number_behind}
+use Rattle.pl_node.specs.ManagerViews.{Recall, Registration, number_behind}
+use Rattle.pl_law_phases.specs.Phases.{IsLate, Phase, learns}
 use Rattle.pl_law_phases.specs.Tenures.{IsKnown, IsUnknown, Order, Tenure, Told, is_held}
 use Rattle.pl_law_phases.specs.Tenures.Told.{Ages}
 use Rattle.pl_law_phases.specs.Tenures.Order.{Releases}

@@ -47,6 +47,65 @@ registered_held t (LedAged c n late is held up down k) r reg = ap is_held held
 registered_held t (LedCounted c held up down k) r reg = ap is_held held
 registered_held t (Released number held up down u) r reg = ap is_held held
 
+-- ---- an address that was counted rests
+rests_unused : (P : Type 0) (t : Tenure) (h : AddressUse) (m : ℕ) → t.held ≡ Some h → is_in_use h ≡ true → t.held ≡ Some (Resting m) → P
+rests_unused P t h m is used rests =
+    absurd (false≢true (ap is_in_use (same_Some (Resting m) h (sym rests ∙ is)) ∙ used))
+
+not_counted : (P : Type 0) (t : Tenure) → t.aged ≡ false → t.aged ≡ true → P
+not_counted P t no_longer is = absurd (false≢true (sym no_longer ∙ is))
+
+pub not_used_aged : (t : Tenure) → Phase t → (h : AddressUse) → t.held ≡ Some h → is_in_use h ≡ true → t.aged ≡ true → ⊥
+not_used_aged t (Gone free up down u) h is used aged = not_counted ⊥ t u.aged aged
+not_used_aged t (Fresh idle n held up down u) h is used aged = not_counted ⊥ t u.aged aged
+not_used_aged t (FreshAged n held up down u) h is used aged = not_counted ⊥ t u.aged aged
+not_used_aged t (Current idle n held up down k) h is used aged = not_counted ⊥ t k.aged_is aged
+not_used_aged t (CurrentAged n held up down k) h is used aged = not_counted ⊥ t k.aged_is aged
+not_used_aged t (CurrentCounted held up down k) h is used aged = rests_unused ⊥ t h 0 is used held
+not_used_aged t (Recalled c idle n held up down k) h is used aged = not_counted ⊥ t k.aged_is aged
+not_used_aged t (RecalledAged c n late late_is held up down k) h is used aged = not_counted ⊥ t k.aged_is aged
+not_used_aged t (Led c trap age n late late_is held new number up down k) h is used aged = not_counted ⊥ t k.aged_is aged
+not_used_aged t (LedAged c n late late_is held up down k) h is used aged = not_counted ⊥ t k.aged_is aged
+not_used_aged t (LedCounted c held up down k) h is used aged = rests_unused ⊥ t h c.number is used held
+not_used_aged t (Released number held up down u) h is used aged = not_counted ⊥ t u.aged aged
+
+-- and nothing about it waits for the manager
+pub counted_silent : (t : Tenure) → Phase t → t.aged ≡ true → t.up ≡ []
+counted_silent t (Gone free up down u) aged = up
+counted_silent t (Fresh idle n held up down u) aged = not_counted (t.up ≡ []) t u.aged aged
+counted_silent t (FreshAged n held up down u) aged = not_counted (t.up ≡ []) t u.aged aged
+counted_silent t (Current idle n held up down k) aged = not_counted (t.up ≡ []) t k.aged_is aged
+counted_silent t (CurrentAged n held up down k) aged = not_counted (t.up ≡ []) t k.aged_is aged
+counted_silent t (CurrentCounted held up down k) aged = up
+counted_silent t (Recalled c idle n held up down k) aged = not_counted (t.up ≡ []) t k.aged_is aged
+counted_silent t (RecalledAged c n late late_is held up down k) aged = not_counted (t.up ≡ []) t k.aged_is aged
+counted_silent t (Led c trap age n late late_is held new number up down k) aged = not_counted (t.up ≡ []) t k.aged_is aged
+counted_silent t (LedAged c n late late_is held up down k) aged = not_counted (t.up ≡ []) t k.aged_is aged
+counted_silent t (LedCounted c held up down k) aged = up
+counted_silent t (Released number held up down u) aged = up
+
+-- ---- a free address is spoken of nowhere
+pub record IsSilentAt (t : Tenure) : Type 0 where
+  pub up : t.up ≡ []
+  pub down : t.down ≡ []
+
+live_free : (P : Type 0) (t : Tenure) → is_held t.held ≡ true → is_held t.held ≡ false → P
+live_free P t live free = absurd (not_both t.held live free)
+
+pub free_silent : (t : Tenure) → Phase t → is_held t.held ≡ false → IsSilentAt t
+free_silent t (Gone free up down u) none = record { up = up; down = down }
+free_silent t (Fresh idle n held up down u) none = live_free (IsSilentAt t) t (ap is_held held) none
+free_silent t (FreshAged n held up down u) none = live_free (IsSilentAt t) t (ap is_held held) none
+free_silent t (Current idle n held up down k) none = live_free (IsSilentAt t) t (ap is_held held) none
+free_silent t (CurrentAged n held up down k) none = live_free (IsSilentAt t) t (ap is_held held) none
+free_silent t (CurrentCounted held up down k) none = live_free (IsSilentAt t) t (ap is_held held) none
+free_silent t (Recalled c idle n held up down k) none = live_free (IsSilentAt t) t (ap is_held held) none
+free_silent t (RecalledAged c n late late_is held up down k) none = live_free (IsSilentAt t) t (ap is_held held) none
+free_silent t (Led c trap age n late late_is held new number up down k) none = live_free (IsSilentAt t) t (ap is_held held) none
+free_silent t (LedAged c n late late_is held up down k) none = live_free (IsSilentAt t) t (ap is_held held) none
+free_silent t (LedCounted c held up down k) none = live_free (IsSilentAt t) t (ap is_held held) none
+free_silent t (Released number held up down u) none = live_free (IsSilentAt t) t (ap is_held held) none
+
 module _ (t : Tenure) where
   -- ---- an address in use
   -- it is told, where the manager does not know it

@@ -13,8 +13,8 @@ use Rattle.pl_node.specs.declared.messages.ToManager.TheVariants as tell
 use Rattle.pl_node.specs.declared.messages.ToSwitch.{ToSwitch}
 use Rattle.pl_node.specs.declared.messages.ToSwitch.TheVariants as say
 use Rattle.pl_law_phases.specs.Tenures.{Order, order_of, orders_of, told_of, words_of}
-use Rattle.pl_law_phases.specs.Tenures.Told.{Learns}
-use Rattle.pl_law_phases.specs.Tenures.Order.{Recalls}
+use Rattle.pl_law_phases.specs.Tenures.Told.{Ages, Learns}
+use Rattle.pl_law_phases.specs.Tenures.Order.{Recalls, Releases}
 
 pub words_behind : (x : Pmac) (up more : List ToManager) → words_of x (up ++ more) ≡ words_of x up ++ words_of x more
 words_behind x up more = flat_map-append (told_of x) up more
@@ -34,6 +34,18 @@ ordered_here x new number ip = cond-true (same_pmac x x) (Recalls new number ∷
 
 pub ordered_there : (old y new : Pmac) (number : ℕ) (ip : Option Ip4) → same_pmac old y ≡ false → order_of y (say.Invalidate old new number ip) ≡ []
 ordered_there old y new number ip other = cond-false (same_pmac old y) (Recalls new number ∷ []) [] other
+
+pub aged_here : (x : Pmac) (number : ℕ) → told_of x (tell.Aged x number) ≡ Ages number ∷ []
+aged_here x number = cond-true (same_pmac x x) (Ages number ∷ []) [] (pmac_itself x)
+
+pub aged_there : (x y : Pmac) (number : ℕ) → same_pmac x y ≡ false → told_of y (tell.Aged x number) ≡ []
+aged_there x y number other = cond-false (same_pmac x y) (Ages number ∷ []) [] other
+
+pub released_here : (x : Pmac) → order_of x (say.Release x) ≡ Releases ∷ []
+released_here x = cond-true (same_pmac x x) (Releases ∷ []) [] (pmac_itself x)
+
+pub released_there : (x y : Pmac) → same_pmac x y ≡ false → order_of y (say.Release x) ≡ []
+released_there x y other = cond-false (same_pmac x y) (Releases ∷ []) [] other
 
 -- ---- an order that waits somewhere
 record IsAmid {X : Type 0} (xs : List X) (x : X) : Type 0 where

@@ -1,19 +1,20 @@
--- A host's address from its grant to a trap, as words in queues and in what the manager knows: the host moves from one port of a switch to another.
+-- A host's address from its grant until it is free again, as words in queues and in what the manager knows: the host moves from one port of a switch to
+-- another.
 use Rattle.std.specs.Prelude.{ℕ, false, List, [], ◌∷◌, Option, Some, None, refl}
 use Rattle.std.proofs.Common.{inl}
 use Rattle.pl_frame.specs.declared.address.Mac.{Mac}
 use Rattle.pl_frame.specs.declared.address.SwitchId.{SwitchId}
 use Rattle.pl_pmac.specs.declared.pmac.Pmac.{Pmac}
 use Rattle.pl_node.specs.declared.address_use.AddressUse.{AddressUse}
-use Rattle.pl_node.specs.declared.address_use.AddressUse.TheVariants.{InUse, Trapped}
+use Rattle.pl_node.specs.declared.address_use.AddressUse.TheVariants.{Free, InUse, Resting, Trapped}
 use Rattle.pl_node.specs.declared.messages.ToManager.{ToManager}
 use Rattle.pl_node.specs.declared.messages.ToManager.TheVariants as tell
 use Rattle.pl_node.specs.declared.messages.ToSwitch.{ToSwitch}
 use Rattle.pl_node.specs.declared.messages.ToSwitch.TheVariants as say
-use Rattle.pl_node.specs.ManagerViews.{Learnt, LearntAddress, Recall, Registration, registration}
+use Rattle.pl_node.specs.ManagerViews.{Learnt, LearntAddress, Recall, Registration, has_aged, recall_of, registration}
 use Rattle.pl_law_phases.specs.Phases.{Phase}
-use Rattle.pl_law_phases.specs.Phases.Phase.{Gone, Fresh, Current, Recalled, Led}
-use Rattle.pl_law_phases.specs.Tenures.{Tenure, has_aged, orders_of, recall_of, words_of}
+use Rattle.pl_law_phases.specs.Phases.Phase.{Gone, Fresh, Current, Recalled, Led, LedAged, Released}
+use Rattle.pl_law_phases.specs.Tenures.{Tenure, orders_of, words_of}
 
 abbrev host : Mac
 host = record { 0 = 2 ∷ 0 ∷ 0 ∷ 0 ∷ 0 ∷ 1 ∷ [] }
@@ -67,3 +68,15 @@ recalled = Recalled newer 0 0 refl refl refl (record { is = registered_first; re
 led : Phase (tenure (Some (Trapped (record { new = at_port 1; number = 2; ip = None }) 0)) [] [] (second ∷ first (Some newer) ∷ []) 2)
 led = Led newer (record { new = at_port 1; number = 2; ip = None }) 0 0 [] (inl refl) refl refl refl refl refl
     (record { is = registered_first; reg = refl; recall_is = refl; aged_is = refl })
+
+-- 300 ticks later the trap has ended there, and that is told
+led_aged : Phase (tenure (Some (Resting 2)) (tell.Aged (at_port 0) 2 ∷ []) [] (second ∷ first (Some newer) ∷ []) 2)
+led_aged = LedAged newer 0 [] (inl refl) refl refl refl (record { is = registered_first; reg = refl; recall_is = refl; aged_is = refl })
+
+-- the manager counted that; it forgets the address, and says so
+released : Phase (tenure (Some (Resting 2)) [] (say.Release (at_port 0) ∷ []) (second ∷ []) 2)
+released = Released 2 refl refl refl (record { reg = refl; recall = refl; aged = refl })
+
+-- the edge switch heard it: the address is free
+free_again : Phase (tenure (Some Free) [] [] (second ∷ []) 2)
+free_again = Gone refl refl refl (record { reg = refl; recall = refl; aged = refl })

@@ -1,5 +1,5 @@
 -- What an address goes through from its grant until it is free again.
-use Rattle.std.specs.Prelude.{◌≡◌, ◌⊎◌, ℕ, true, false, List, [], ◌∷◌, ◌++◌, Option, Some, None, replicate}
+use Rattle.std.specs.Prelude.{◌≡◌, ◌⊎◌, ℕ, true, false, List, [], ◌∷◌, ◌++◌, Some, None, replicate}
 use Rattle.pl_node.specs.declared.address_use.AddressUse.TheVariants.{InUse, Trapped, Resting}
 use Rattle.pl_node.specs.declared.trap.Trap.{Trap}
 use Rattle.pl_node.specs.ManagerViews.{Recall}
@@ -15,12 +15,7 @@ learns n = replicate n Learns
 abbrev pub IsLate : List Told → Type 0
 IsLate ages = (ages ≡ []) ⊎ (ages ≡ Ages 0 ∷ [])
 
--- the number of the trap that it aged behind, 0 for none
-abbrev pub number_behind : Option Recall → ℕ
-number_behind None = 0
-number_behind (Some c) = c.number
-
--- In this order; each change of phase is one event. No address ages yet: of these twelve Gone, Fresh, Current, Recalled and Led are reached.
+-- In this order; each change of phase is one event.
 pub data Phase (t : Tenure) : Type 0 where
   -- never granted, or free: nobody speaks of it
   Gone : is_held t.held ≡ false → t.up ≡ [] → t.down ≡ [] → IsUnknown t → Phase t

@@ -1,16 +1,15 @@
 -- What stands about one address: at its edge switch, at the fabric manager, and in the messages that wait between the two.
-use Rattle.std.specs.Prelude.{◌≡◌, ℕ, Bool, true, false, if◌then◌else◌, List, [], ◌∷◌, Option, Some, None, unwrap_or}
-use Rattle.std.specs.List.{find, flat_map}
-use Rattle.std.specs.Option.{option_and_then, option_map}
+use Rattle.std.specs.Prelude.{◌≡◌, ℕ, Bool, false, if◌then◌else◌, List, [], ◌∷◌, Option, Some, None}
+use Rattle.std.specs.List.{flat_map}
 use Rattle.pl_pmac.specs.declared.pmac.Pmac.{Pmac}
 use Rattle.pl_layouts.specs.Equality.{same_pmac}
+use Rattle.pl_node.specs.AddressUses.{is_held as is_somebodys}
 use Rattle.pl_node.specs.declared.address_use.AddressUse.{AddressUse}
-use Rattle.pl_node.specs.declared.address_use.AddressUse.TheVariants.{InUse, Trapped, Resting, Free}
 use Rattle.pl_node.specs.declared.messages.ToManager.{ToManager}
 use Rattle.pl_node.specs.declared.messages.ToManager.TheVariants as tell
 use Rattle.pl_node.specs.declared.messages.ToSwitch.{ToSwitch}
 use Rattle.pl_node.specs.declared.messages.ToSwitch.TheVariants as say
-use Rattle.pl_node.specs.ManagerViews.{Learnt, LearntAddress, Recall, Registration}
+use Rattle.pl_node.specs.ManagerViews.{Recall, Registration}
 
 -- a word about one address on its way to the manager: it is told, or told to have aged behind a trap of this number, 0 for none
 pub data Told : Type 0 where
@@ -25,10 +24,12 @@ pub data Order : Type 0 where
 -- the words about an address in a message
 abbrev pub told_of : Pmac → ToManager → List Told
 told_of x (tell.Learned pmac amac ip) = if same_pmac pmac x then Learns ∷ [] else []
+told_of x (tell.Aged pmac number) = if same_pmac pmac x then Ages number ∷ [] else []
 told_of x says = []
 
 abbrev pub order_of : Pmac → ToSwitch → List Order
 order_of x (say.Invalidate old new number ip) = if same_pmac old x then Recalls new number ∷ [] else []
+order_of x (say.Release pmac) = if same_pmac pmac x then Releases ∷ [] else []
 order_of x says = []
 
 -- the words about it in a queue, the one that comes next first
@@ -41,20 +42,7 @@ orders_of x down = flat_map (order_of x) down
 -- granted, and not free
 abbrev pub is_held : Option AddressUse → Bool
 is_held None = false
-is_held (Some (InUse idle)) = true
-is_held (Some (Trapped trap age)) = true
-is_held (Some (Resting number)) = true
-is_held (Some Free) = false
-
--- what the manager knows of an address besides its registration: where it leads, and whether it was told to have aged since
-abbrev pub learnt_at : Learnt → Pmac → Option LearntAddress
-learnt_at learnt x = find (λ a. same_pmac a.pmac x) learnt.addresses
-
-abbrev pub recall_of : Learnt → Pmac → Option Recall
-recall_of learnt x = option_and_then (λ a. a.recall) (learnt_at learnt x)
-
-abbrev pub has_aged : Learnt → Pmac → Bool
-has_aged learnt x = unwrap_or (option_map (λ a. a.aged) (learnt_at learnt x)) false
+is_held (Some held) = is_somebodys held
 
 -- Of one address: what its edge switch uses it for, none where it was never granted; what waits; and what the manager knows of it.
 pub record Tenure : Type 0 where

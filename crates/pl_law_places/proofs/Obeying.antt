@@ -11,14 +11,14 @@ use Rattle.pl_node.specs.SwitchViews.{SwitchView}
 use Rattle.pl_steps.specs.Steps.{rests}
 use Rattle.pl_switch_rule.specs.Levels.{changes_to}
 use Rattle.pl_law_control_plane.specs.ControlPlanes.{ControlPlane}
-use Rattle.pl_law_control_plane.proofs.Exports.{answers_silent, changes_to_silent, floods_silent, invalidates_silent, still_does, still_step}
+use Rattle.pl_law_control_plane.proofs.Exports.{answers_silent, changes_to_silent, floods_silent, frees_silent, invalidates_silent, still_does, still_step}
 use Rattle.pl_law_places.specs.Places.{ArePlaced}
 use Rattle.pl_law_places.proofs.Later.{IsGoodTurn}
 use Rattle.pl_law_places.proofs.TurnsWithoutControlFrames.{IsGoodView, new_view, same_ports, silent_turn, view_itself}
 use Rattle.pl_node.specs.declared.messages.ToSwitch.{ToSwitch}
-use Rattle.pl_node.specs.declared.messages.ToSwitch.TheVariants.{Answer, Avoid, Flood, Invalidate, Pod, Tree}
+use Rattle.pl_node.specs.declared.messages.ToSwitch.TheVariants.{Answer, Avoid, Flood, Invalidate, Pod, Release, Tree}
 use Rattle.pl_switch_rule.specs.Forwarding.{Choice}
-use Rattle.pl_switch_rule.specs.Granting.{granted, is_granted}
+use Rattle.pl_switch_rule.specs.Granting.{granted, held_here, is_granted}
 use Rattle.pl_switch_rule.specs.Levels.{with_pod}
 use Rattle.pl_switch_rule.specs.Messages.{answer_frame, flood_frame, hears_manager, hears_pod, takes_pod, with_part}
 use Rattle.pl_switch_rule.specs.SwitchRule.{IsChoice}
@@ -86,4 +86,7 @@ module _ (plan : Plan) (f : ControlPlane) (s : ℕ) (is : IsPlan plan) (old : Ar
       (floods_silent (flood_frame asker asker_ip ip) (f.view s) (is_granted (f.view s) asker) (old.sound s there).homes)
   order_turn choose (Invalidate before new number ip) chooses fine =
       silent_turn plan f s is old (f.view s) (hears_manager choose (f.view s) (Invalidate before new number ip)) (view_itself plan f s is old there)
-      (invalidates_silent (f.view s) before (record { new = new; number = number; ip = ip }) (granted (f.view s) before) refl (old.sound s there).homes)
+      (invalidates_silent (f.view s) before (record { new = new; number = number; ip = ip }) (held_here (f.view s) before) refl (old.sound s there).homes)
+  order_turn choose (Release address) chooses fine =
+      silent_turn plan f s is old (f.view s) (hears_manager choose (f.view s) (Release address)) (view_itself plan f s is old there)
+      (frees_silent (f.view s) address (granted (f.view s) address) refl (old.sound s there).homes)

@@ -20,16 +20,18 @@ use Rattle.pl_node.specs.Announcements.{announcement, direction_of}
 use Rattle.pl_node.specs.PortRecords.{aged, heard_id, id_at, port_of, ports_where}
 use Rattle.pl_node.specs.SwitchViews.{SwitchView}
 use Rattle.pl_node.proofs.Exports.{aged_at, direction_low}
-use Rattle.pl_switch_rule.specs.Announcing.{announces_at, proposal, proposes_at, ticks, with_aged_ports}
+use Rattle.pl_steps.specs.Steps.{SwitchStep}
+use Rattle.pl_switch_rule.specs.Aging.{ages}
+use Rattle.pl_switch_rule.specs.Announcing.{announces_at, proposal, proposes_at, tells_neighbours, ticks, with_aged_ports}
 use Rattle.pl_switch_rule.specs.Telling.{changes_told}
 use Rattle.pl_law_control_plane.specs.ControlPlanes.{AreAdjacent, ControlPlane, is_pass, message_in, messages_of, passes, sends, sent_by}
 use Rattle.pl_law_control_plane.specs.Discovery.{CanBeTold, CanPropose}
-use Rattle.pl_law_control_plane.proofs.Exports.{adjacent_there, adjacent_turned, any_append, changes_told_still, flat_map_append, IsStill, ldm_writable, mute_sends_none, proposal_writable, still_mute, written_is_read}
+use Rattle.pl_law_control_plane.proofs.Exports.{adjacent_there, adjacent_turned, ages_silent, any_append, changes_told_still, flat_map_append, IsStill, ldm_writable, mute_sends_none, proposal_writable, still_mute, written_is_read}
 use Rattle.pl_law_places.specs.Known.{IsAble, IsPlaceOfLabel, IsSoundView}
 use Rattle.pl_law_places.specs.Places.{ArePlaced}
 use Rattle.pl_law_places.specs.Told.{IsGoodMessage, has_heard}
 use Rattle.pl_law_places.proofs.Later.{IsGoodTurn, true_of_itself}
-use Rattle.pl_law_places.proofs.TurnsWithoutControlFrames.{IsGoodView, SamePorts, full_same, homes_same, same_view}
+use Rattle.pl_law_places.proofs.TurnsWithoutControlFrames.{IsGoodView, SamePorts, full_same, homes_same, same_view, then_silent}
 use Rattle.pl_journal.specs.Flights.{label_level}
 
 level_low : (label : Label) → label_level label < 3
@@ -125,8 +127,8 @@ module _ (plan : Plan) (f : ControlPlane) (s : ℕ) (is : IsPlan plan) (old : Ar
     homes = homes_same v (with_aged_ports v) (λ p h. same.host p ∙ h) (λ p h. sym (same.host p) ∙ h) refl refl refl sound.homes;
   }
 
-  pub tick_turn : IsGoodTurn plan f s (ticks (f.view s)).view (ticks (f.view s)).acts
-  tick_turn =
+  neighbours_turn : IsGoodTurn plan f s (tells_neighbours (f.view s)).view (tells_neighbours (f.view s)).acts
+  neighbours_turn =
       let v : SwitchView = f.view s in
       let new : SwitchView = with_aged_ports v in
       let good = same_view plan f s is old new refl refl (aged_same v.ports) ticked_sound in
@@ -154,7 +156,7 @@ module _ (plan : Plan) (f : ControlPlane) (s : ℕ) (is : IsPlan plan) (old : Ar
 
       sent_at : (t q p : ℕ) → AreAdjacent plan s p t q → (new : SwitchView) → IsGoodView plan f s (with_aged_ports (f.view s)) →
           AllByRecursion (IsGoodMessage (with_aged_ports (f.view s)).id (with_aged_ports (f.view s)).place (has_heard (with_aged_ports (f.view s)) p))
-          (sends p (ticks (f.view s)).acts)
+          (sends p (tells_neighbours (f.view s)).acts)
       sent_at t q p adjacent new good =
           rw (
             flat_map_append (sent_by p) told (first ++ second),
@@ -165,7 +167,7 @@ module _ (plan : Plan) (f : ControlPlane) (s : ℕ) (is : IsPlan plan) (old : Ar
           (sends_map _ (announcement (with_aged_ports (f.view s))) p _ (announced (with_aged_ports (f.view s)) t q p good adjacent))
           (sends_map _ (λ port. proposal (with_aged_ports (f.view s))) p _ (proposed (with_aged_ports (f.view s)) p size good.sound)))
 
-      no_pass : (p : ℕ) → passes p (ticks (f.view s)).acts ≡ false
+      no_pass : (p : ℕ) → passes p (tells_neighbours (f.view s)).acts ≡ false
       no_pass p =
           any_append (is_pass p) told (first ++ second)
           ∙ rw (
@@ -174,3 +176,8 @@ module _ (plan : Plan) (f : ControlPlane) (s : ℕ) (is : IsPlan plan) (old : Ar
             passes_map (announcement (with_aged_ports (f.view s))) p (ports_where (with_aged_ports (f.view s)) (announces_at (with_aged_ports (f.view s)))),
             passes_map (λ port. proposal (with_aged_ports (f.view s))) p (ports_where (with_aged_ports (f.view s)) (proposes_at (with_aged_ports (f.view s)))),
           ) refl
+
+  pub tick_turn : IsGoodTurn plan f s (ticks (f.view s)).view (ticks (f.view s)).acts
+  tick_turn =
+      let told : SwitchStep = tells_neighbours (f.view s) in
+      then_silent plan f s is old told.view told.acts (ages told.view) neighbours_turn (ages_silent told.view ticked_sound.homes)

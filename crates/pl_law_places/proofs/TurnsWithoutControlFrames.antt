@@ -1,25 +1,27 @@
 -- Turns of which discovery sees a new view alone, and that send no control frame.
-use Rattle.std.proofs.Common.{◌≡◌, ℕ, ◌<◌, ◌⊎◌, ◌&&◌, Bool, true, false, nat_lt, List, [], Option, Some, None, is_some, get_or, refl, sym, ap, ◌∙◌, inl, inr}
-use Rattle.std.proofs.lemmas.Bool.{and_parts}
-use Rattle.pl_lemmas.proofs.Exports.{all_weaker}
+use Rattle.std.proofs.Common.{◌≡◌, ℕ, ◌<◌, ◌⊎◌, ◌&&◌, Bool, true, false, nat_lt, List, [], ◌++◌, Option, Some, None, is_some, get_or, refl, sym, ap, ◌∙◌, subst, inl, inr}
+use Rattle.std.specs.List.{AllByRecursion}
+use Rattle.std.proofs.lemmas.Bool.{and_parts, or_cases}
+use Rattle.pl_lemmas.proofs.Exports.{all_append, all_weaker}
 use Rattle.pl_frame.specs.declared.address.SwitchId.{SwitchId}
 use Rattle.pl_layouts.specs.declared.place.Place.{Place}
 use Rattle.pl_wiring.specs.declared.link.Peer.TheVariants.{HostPort}
 use Rattle.pl_wiring.specs.Labels.{label_of, switch_count}
 use Rattle.pl_wiring.specs.Peers.{peer_of}
 use Rattle.pl_wiring.specs.Plan.{IsPlan, Plan}
+use Rattle.pl_node.specs.declared.acts.Act.{Act}
 use Rattle.pl_node.specs.declared.neighbour.Neighbour.{Neighbour}
 use Rattle.pl_node.specs.declared.neighbour.PortRecord.{PortRecord}
 use Rattle.pl_node.specs.declared.switch_records.Member.{Member}
 use Rattle.pl_node.specs.PortRecords.{heard_echo, heard_place, is_id, is_usable, new_port, port_of}
 use Rattle.pl_node.specs.SwitchViews.{SwitchView}
 use Rattle.pl_steps.specs.Steps.{SwitchStep}
-use Rattle.pl_law_control_plane.specs.ControlPlanes.{AreAdjacent, ControlPlane}
+use Rattle.pl_law_control_plane.specs.ControlPlanes.{AreAdjacent, ControlPlane, is_pass, passes, sends, sent_by}
 use Rattle.pl_law_control_plane.specs.Homes.{HasHomes}
-use Rattle.pl_law_control_plane.proofs.Exports.{adjacent_turned, IsSilent, mute_sends_none, well_passes}
+use Rattle.pl_law_control_plane.proofs.Exports.{adjacent_turned, any_append, flat_map_append, IsSilent, mute_sends_none, well_passes}
 use Rattle.pl_law_places.specs.Known.{HasPod, HasAllGiven, IsPlaceOfLabel, IsSoundView, told_at}
 use Rattle.pl_law_places.specs.Places.{ArePlaced}
-use Rattle.pl_law_places.specs.Told.{IsGoodRecord, IsTrueOf, has_heard}
+use Rattle.pl_law_places.specs.Told.{IsGoodMessage, IsGoodRecord, IsTrueOf, has_heard}
 use Rattle.pl_law_places.proofs.Later.{IsGoodTurn, IsZero, true_of_itself}
 
 -- what a new view of switch s owes, in the control plane before it
@@ -134,3 +136,39 @@ module _ (plan : Plan) (f : ControlPlane) (s : ℕ) (is : IsPlan plan) (old : Ar
       homes = silent.homes;
     };
   }
+
+  view_of_turn : (v : SwitchView) (acts : List Act) → IsGoodTurn plan f s v acts → IsGoodView plan f s v
+  view_of_turn v acts turn = record {
+    id = turn.id;
+    later = turn.later;
+    own = turn.own;
+    heard = turn.heard;
+    pods = turn.pods;
+    recorded = turn.recorded;
+    strangers = turn.strangers;
+    sound = turn.sound;
+  }
+
+  -- a good turn that goes on silently
+  pub then_silent : (v : SwitchView) (acts : List Act) (step : SwitchStep) → IsGoodTurn plan f s v acts → IsSilent v step →
+      IsGoodTurn plan f s step.view (acts ++ step.acts)
+  then_silent v acts step turn silent =
+      let seen = silent.seen in
+      let behind = silent_turn v step (view_of_turn v acts turn) silent in
+      record {
+        id = behind.id;
+        later = behind.later;
+        own = behind.own;
+        heard = behind.heard;
+        pods = behind.pods;
+        recorded = behind.recorded;
+        strangers = behind.strangers;
+        sent = λ t q p adjacent. subst (AllByRecursion (IsGoodMessage step.view.id step.view.place (has_heard step.view p))) (sym (flat_map_append (sent_by p) acts step.acts))
+            (all_append (IsGoodMessage step.view.id step.view.place (has_heard step.view p)) (sends p acts) (sends p step.acts)
+            (rw (seen.id, seen.place, seen.ports) (turn.sent t q p adjacent)) (behind.sent t q p adjacent));
+        passed = λ t q p adjacent h. elim (or_cases (passes p acts) (passes p step.acts) (sym (any_append (is_pass p) acts step.acts) ∙ h)) [
+          | inl first ↦ turn.passed t q p adjacent first
+          | inr second ↦ behind.passed t q p adjacent second
+        ];
+        sound = behind.sound;
+      }

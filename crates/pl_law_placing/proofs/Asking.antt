@@ -28,6 +28,7 @@ use Rattle.pl_node.specs.SwitchInputs.SwitchInput.{Comes, Says, Tick}
 use Rattle.pl_node.specs.SwitchViews.{SwitchView}
 use Rattle.pl_steps.specs.Steps.{SwitchStep, rests}
 use Rattle.pl_manager_rule.specs.ManagerRule.{avoid_acts, manager_hears, manager_rule, tree_acts, view_after}
+use Rattle.pl_switch_rule.specs.Announcing.{with_aged_ports}
 use Rattle.pl_switch_rule.specs.Forwarding.{Choice}
 use Rattle.pl_switch_rule.specs.Levels.{after_message, changes_to, settles_in, with_pod}
 use Rattle.pl_switch_rule.specs.Messages.{hears_pod, takes_pod}
@@ -41,7 +42,7 @@ use Rattle.pl_law_control_plane.proofs.Exports.{any_append, flat_map_append}
 use Rattle.pl_law_addresses.proofs.Exports.{place_is}
 use Rattle.pl_law_places.specs.Places.{ArePlaced, ArePodNumbers, IsPodNumber}
 use Rattle.pl_law_places.specs.Told.{IsTrueOf}
-use Rattle.pl_law_votes.proofs.Exports.{aside_data, changes, manager_leaves_votes, proposal_stance, same_stance, Stance}
+use Rattle.pl_law_votes.proofs.Exports.{aside_ages, aside_data, changes, manager_leaves_votes, proposal_stance, same_stance, Stance}
 use Rattle.pl_law_placing.specs.Asking.{HaveAsked, is_number, is_wish}
 use Rattle.pl_law_placing.proofs.Voting.{counts_says}
 
@@ -113,7 +114,7 @@ either_asks v true x y a b = a
 either_asks v false x y a b = b
 
 step_asks : (choose : Choice) (v : SwitchView) (input : SwitchInput) → Asks v (switch_step choose v input)
-step_asks choose v Tick = same_asks v (switch_step choose v Tick) refl
+step_asks choose v Tick = same_asks v (switch_step choose v Tick) (ap (λ (x : Stance). x.position) (aside_ages (with_aged_ports v)).same)
 step_asks choose v (Comes port frame) =
     either_asks v (is_control frame) (control_comes v port frame) (data_comes choose v port frame)
     (either_asks v (port_of v port).host (rests v) (hears_control v port (control_in (payload_of frame))) (same_asks v (rests v) refl)
@@ -231,6 +232,7 @@ module _ (f : ControlPlane) (is : IsPlan f.plan) where
     order_owes m s (say.Flood a b c) same first turns = turn_owes m s (Says (say.Flood a b c)) same turns (order_left m s (say.Flood a b c) refl first)
     order_owes m s (say.Avoid list) same first turns = turn_owes m s (Says (say.Avoid list)) same turns (order_left m s (say.Avoid list) refl first)
     order_owes m s (say.Invalidate a b c d) same first turns = turn_owes m s (Says (say.Invalidate a b c d)) same turns (order_left m s (say.Invalidate a b c d) refl first)
+    order_owes m s (say.Release a) same first turns = turn_owes m s (Says (say.Release a)) same turns (order_left m s (say.Release a) refl first)
     order_owes m s (say.Tree group part) same first turns = turn_owes m s (Says (say.Tree group part)) same turns (order_left m s (say.Tree group part) refl first)
 
     order_turn : (m : ControlPlane) (s : ℕ) (says : ToSwitch) → IsOrderTaken f s says m → SwitchTurns Loose m s (Says says) g → HaveAsked g
@@ -254,6 +256,7 @@ module _ (f : ControlPlane) (is : IsPlan f.plan) where
     report_heard s id (tell.Place place) before left named first = report_left s (tell.Place place) left _ refl first
     report_heard s id (tell.Link u usable) before left named first = report_left s (tell.Link u usable) left _ refl first
     report_heard s id (tell.Learned a b c) before left named first = report_left s (tell.Learned a b c) left _ refl first
+    report_heard s id (tell.Aged a b) before left named first = report_left s (tell.Aged a b) left _ refl first
     report_heard s id (tell.Query a b c) before left named first = report_left s (tell.Query a b c) left _ refl first
     report_heard s id (tell.Members group any) before left named first = report_left s (tell.Members group any) left _ refl first
 

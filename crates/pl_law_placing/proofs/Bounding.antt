@@ -6,12 +6,12 @@ use Rattle.pl_layouts.specs.declared.control.Control.TheVariants.{Ldm, Proposal,
 use Rattle.pl_layouts.specs.declared.control.ControlError.{ControlError}
 use Rattle.pl_node.specs.SwitchViews.{SwitchView}
 use Rattle.pl_steps.specs.Steps.{SwitchStep}
-use Rattle.pl_switch_rule.specs.Announcing.{ticks}
+use Rattle.pl_switch_rule.specs.Announcing.{ticks, with_aged_ports}
 use Rattle.pl_switch_rule.specs.Levels.{after_message}
 use Rattle.pl_switch_rule.specs.Positions.{after_vote}
 use Rattle.pl_switch_rule.specs.SwitchRule.{hears_control}
 use Rattle.pl_law_control_plane.specs.ControlPlanes.{ControlPlane}
-use Rattle.pl_law_votes.proofs.Exports.{changes, proposal_stance, same_stance, Stance}
+use Rattle.pl_law_votes.proofs.Exports.{aside_ages, changes, proposal_stance, same_stance, Stance}
 use Rattle.pl_law_placing.specs.Bounding.{IsBounded}
 use Rattle.pl_law_placing.proofs.Seeing.{Seen, Turned}
 use Rattle.pl_law_placing.proofs.Seeing.Seen.{Gone, Hears, Quiet, Ticks}
@@ -62,6 +62,7 @@ hears_tried v port (Ok (Vote id vote)) = by (vote_becomes v port vote)
 pub seen_bounded : (n : ℕ) (f g : ControlPlane) → ((x : ℕ) → IsBounded n (f.view x)) → Seen f g → (x : ℕ) → IsBounded (n + 1) (g.view x)
 seen_bounded n f g b (Gone same left) x = subst (IsBounded (n + 1)) (sym (same x)) (bounded_then n (f.view x) (f.view x) (b x) (λ is. is) (inl refl))
 seen_bounded n f g b (Quiet m s st turn aside ports) x = turned_bounded n f m g s st turn b (inl (ap (λ (y : Stance). y.attempt) aside.same)) x
-seen_bounded n f g b (Ticks s turn) x = turned_bounded n f f g s (ticks (f.view s)) turn b (inl refl) x
+seen_bounded n f g b (Ticks s turn) x = turned_bounded n f f g s (ticks (f.view s)) turn b
+    (inl (ap (λ (y : Stance). y.attempt) (aside_ages (with_aged_ports (f.view s))).same)) x
 seen_bounded n f g b (Hears m t q s port read adjacent taken good turn) x =
     turned_bounded n f m g s (hears_control (m.view s) port read) turn b (hears_tried (m.view s) port read) x

@@ -14,7 +14,7 @@ use Rattle.pl_node.specs.SwitchViews.{SwitchView}
 use Rattle.pl_journal.specs.declared.cause.Cause.{Cause}
 use Rattle.pl_journal.specs.declared.cause.Cause.TheVariants.{LinkDown}
 use Rattle.pl_journal.specs.declared.entry.Entry.{Entry}
-use Rattle.pl_journal.specs.declared.entry.Entry.TheVariants.{Copied, Crossed, Dropped, Granted, Made, Placed, Redirected, Sent, Taken}
+use Rattle.pl_journal.specs.declared.entry.Entry.TheVariants.{Copied, Crossed, Dropped, Freed, Granted, Made, Placed, Redirected, Sent, Taken}
 use Rattle.pl_journal.specs.Flights.{is_empty, sender, trail}
 use Rattle.pl_layouts.specs.declared.place.Place.{Place}
 use Rattle.pl_layouts.specs.Placement.{same_place}
@@ -43,6 +43,9 @@ still_taken id s = record { same_trail = λ past x. refl; same_sender = λ past 
 
 still_granted : (pmac : Pmac) (h s : ℕ) → IsStill (Granted pmac (host_no h) (switch_no s) pmac.port)
 still_granted pmac h s = record { same_trail = λ past x. refl; same_sender = λ past x. refl; same_received = λ past x. refl }
+
+still_freed : (pmac : Pmac) → IsStill (Freed pmac)
+still_freed pmac = record { same_trail = λ past x. refl; same_sender = λ past x. refl; same_received = λ past x. refl }
 
 still_redirected : (id : ℕ) (x y : Pmac) → IsStill (Redirected id x y)
 still_redirected id x y = record { same_trail = λ past x. refl; same_sender = λ past x. refl; same_received = λ past x. refl }
@@ -288,6 +291,11 @@ module _ (old : List Entry) (may : ℕ → Type 0) where
   }
   act_amid s w speech late (act.Tell told) m = record { goes = m.goes; said = m.said; ends = m.ends }
   act_amid s w speech late (act.Grant pmac amac) m = grant_goes w s pmac (host_of w.plan amac) speech late m
+  act_amid s w speech late (act.Free pmac) m = record {
+    goes = goes_entry w (Freed pmac) (still_freed pmac) m.goes;
+    said = said_still w (Freed pmac) (still_freed pmac) speech m.said;
+    ends = m.ends;
+  }
   act_amid s w speech late (act.Make frame) m = made_amid s w speech late frame m.goes m.ends
   act_amid s w Silent late (act.Redirect x y) m = m
   act_amid s w (Waiting id again) late (act.Redirect x y) m = record {

@@ -90,6 +90,7 @@ module _ (f g : ControlPlane) (plan : g.plan ≡ f.plan) (later : (s : ℕ) → 
       asks (tell.Place place) front = all
       asks (tell.Link u usable) front = all
       asks (tell.Learned a b c) front = all
+      asks (tell.Aged a b) front = all
       asks (tell.Query a b c) front = all
       asks (tell.Members group any) front = all
 

@@ -20,7 +20,7 @@ use Rattle.pl_node.specs.PortRecords.{place_at}
 use Rattle.pl_node.specs.SwitchFacts.{hold_at, is_answered}
 use Rattle.pl_node.specs.SwitchViews.{SwitchView}
 use Rattle.pl_steps.specs.Steps.{SwitchStep, rests}
-use Rattle.pl_switch_rule.specs.Announcing.{ticks}
+use Rattle.pl_switch_rule.specs.Announcing.{ticks, with_aged_ports}
 use Rattle.pl_switch_rule.specs.Levels.{after_message, changes_to, hears_message}
 use Rattle.pl_switch_rule.specs.Positions.{after_vote, answers_proposal, frees_others, half, hears_proposal, holds_for, is_free_for, notes_position, vote_on}
 use Rattle.pl_switch_rule.specs.SwitchRule.{hears_control}
@@ -30,7 +30,7 @@ use Rattle.pl_law_places.specs.Places.{ArePlaced}
 use Rattle.pl_law_places.specs.Told.{IsGoodMessage, has_heard}
 use Rattle.pl_law_places.proofs.Exports.{left_keeps, neighbour_at, one_peer, true_of_itself}
 use Rattle.pl_law_votes.specs.Voting.{CanTell, aggregation_no, edge_no}
-use Rattle.pl_law_votes.proofs.Exports.{after_proposal, changes, leads_up, learnt, same_end, same_stance, SaysPlace, SaysProposal, sends_none, Stance, stance, tick_says, TickSays, vote_elsewhere, vote_here, vote_holds, vote_said}
+use Rattle.pl_law_votes.proofs.Exports.{after_proposal, aside_ages, changes, leads_up, learnt, same_end, same_stance, SaysPlace, SaysProposal, sends_none, Stance, stance, tick_says, TickSays, vote_elsewhere, vote_here, vote_holds, vote_said}
 use Rattle.pl_law_placing.specs.Trying.{AreTryingBy, HasReason, IsHolder, IsTrueVote, NamesSomeHolder}
 use Rattle.pl_law_placing.proofs.Below.{edge_adjacent}
 use Rattle.pl_law_placing.proofs.TriesStayInOrder.{Owes, OwesHolds, holds_same, left_trying, reason_same, trying_same, turned_trying, vote_later}
@@ -209,12 +209,13 @@ seen_trying f g is placed can t (Quiet m s st turn aside ports) =
     (quiet_owes f m is (left_keeps f.plan f m turn.left placed) w s turn.there st aside.same aside.holds (λ port. sends_none port st.acts aside.unsaid))
 seen_trying f g is placed can t (Ticks s turn) =
     let v = f.view s in
+    let aside = aside_ages (with_aged_ports v) in
     turned_trying f f g s (ticks v) turn t (record {
-      held = holds_same f.plan f.view f.says t s (ticks v).view refl;
+      held = holds_same f.plan f.view f.says t s (ticks v).view aside.holds;
       said = λ pod j port label here. true_tick f.plan.k f.view pod v (sends port (ticks v).acts)
           (tick_says v port (placed.sound s turn.there).named (can.places s turn.there) (can.proposals s turn.there) (λ id told. can.echoes s port id turn.there told));
-      trying = trying_same v (ticks v).view refl (t.trying s);
-      reasons = reason_same f.plan f.view f.says t s (ticks v).view refl;
+      trying = trying_same v (ticks v).view aside.same (t.trying s);
+      reasons = reason_same f.plan f.view f.says t s (ticks v).view (ap (λ (x : Stance). x.attempt) aside.same);
     })
 seen_trying f g is placed can t (Hears m n q s port read adjacent taken good turn) =
     let w = left_trying f.plan f m turn.left.view turn.left.says t in

@@ -20,10 +20,11 @@ use Rattle.pl_node.specs.PortRecords.{heard_place, new_port}
 use Rattle.pl_node.specs.SwitchViews.{SwitchView}
 use Rattle.pl_node.proofs.Exports.{heard_aged}
 use Rattle.pl_steps.specs.Steps.{SwitchStep, rests}
-use Rattle.pl_switch_rule.specs.Announcing.{ticks}
+use Rattle.pl_switch_rule.specs.Announcing.{ticks, with_aged_ports}
 use Rattle.pl_switch_rule.specs.Levels.{after_message, changes_to}
 use Rattle.pl_switch_rule.specs.Positions.{after_vote, answers_proposal, frees_others, half}
 use Rattle.pl_switch_rule.specs.SwitchRule.{hears_control}
+use Rattle.pl_switch_rule.proofs.Exports.{ages_learn}
 use Rattle.pl_law_control_plane.specs.ControlPlanes.{AreAdjacent, ControlPlane, message_in, messages_of, sends}
 use Rattle.pl_law_control_plane.proofs.Exports.{adjacent_there, adjacent_turned}
 use Rattle.pl_law_places.specs.Places.{ArePlaced}
@@ -31,7 +32,7 @@ use Rattle.pl_law_places.specs.Told.{IsGoodMessage, has_heard}
 use Rattle.pl_law_places.proofs.Exports.{left_keeps}
 use Rattle.pl_law_votes.specs.Pairs.{IsNoProposal, IsRising}
 use Rattle.pl_law_votes.specs.Voting.{CanTell, IsVoting, aggregation_no, edge_no}
-use Rattle.pl_law_votes.proofs.Exports.{answer_to, changes, ids_differ, is_there, number_there, one_port_to, same_end, sends_none, tick_says, vote_elsewhere, vote_here, vote_said}
+use Rattle.pl_law_votes.proofs.Exports.{answer_to, aside_ages, changes, ids_differ, is_there, number_there, one_port_to, same_end, sends_none, tick_says, vote_elsewhere, vote_here, vote_said}
 use Rattle.pl_law_placing.specs.Noting.{AreNotedBy, IsNoted}
 use Rattle.pl_law_placing.proofs.NotesOfAggregations.{left_noted, silent_tick, turned_noted}
 use Rattle.pl_law_placing.proofs.Seeing.{Seen}
@@ -92,8 +93,11 @@ seen_noted f g is placed can v n (Ticks s turn) =
           (tick_says (f.view s) port (placed.sound s turn.there).named (can.places s turn.there) (can.proposals s turn.there) (λ id told. can.echoes s port id turn.there told));
       notes = λ pod i j p q edge aggregation here adjacent.
           let e = edge_no f.plan.k pod i in
-          noted_other (f.view e) (f.view s) (ticks (f.view s)).view q (f.says e p) (λ y hold has own. has)
-          (ap (λ o. (heard_place o).position) (heard_aged (f.view s).ports q))
+          let w : SwitchView = with_aged_ports (f.view s) in
+          noted_other (f.view e) (f.view s) (ticks (f.view s)).view q (f.says e p)
+          (λ y hold has own. ap (λ (hs : List (Option Hold)). get_or hs y None) (sym (aside_ages w).holds) ∙ has)
+          (ap (λ (x : SwitchView). (heard_place (get_or x.ports q new_port).heard).position) (ages_learn w)
+          ∙ ap (λ o. (heard_place o).position) (heard_aged (f.view s).ports q))
           (subst (λ a. IsNoted (f.view e) (f.view a) q (f.says e p)) here (n pod i j p q edge aggregation (subst (λ a. AreAdjacent f.plan e p a q) (sym here) adjacent)));
     })
 seen_noted f g is placed can v n (Hears m t at s port read adjacent taken good turn) =

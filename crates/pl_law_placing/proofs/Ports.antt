@@ -3,20 +3,20 @@ use Rattle.std.proofs.Common.{◌≡◌, ℕ, ◌+◌, ◌%◌, ◌==◌, ◌||�
 use Rattle.pl_layouts.specs.declared.control.Vote.{Vote as Answer}
 use Rattle.pl_layouts.specs.Votes.{counts, gives_way}
 use Rattle.pl_node.specs.declared.messages.ToSwitch.{ToSwitch}
-use Rattle.pl_node.specs.declared.messages.ToSwitch.TheVariants.{Answer as SayAnswer, Avoid, Flood, Invalidate, Pod, Tree}
+use Rattle.pl_node.specs.declared.messages.ToSwitch.TheVariants.{Answer as SayAnswer, Avoid, Flood, Invalidate, Pod, Tree, Release}
 use Rattle.pl_node.specs.declared.neighbour.Neighbour.{Neighbour}
 use Rattle.pl_node.specs.PortRecords.{is_open_to_hosts, port_of}
 use Rattle.pl_node.specs.SwitchViews.{SwitchView}
 use Rattle.pl_steps.specs.Steps.{SwitchStep, rests}
 use Rattle.pl_switch_rule.specs.Forwarding.{Choice}
-use Rattle.pl_switch_rule.specs.Granting.{granted, is_granted}
+use Rattle.pl_switch_rule.specs.Granting.{granted, is_granted, held_here}
 use Rattle.pl_switch_rule.specs.Intake.{comes_from_host}
 use Rattle.pl_switch_rule.specs.Levels.{changes_to, with_pod}
 use Rattle.pl_switch_rule.specs.Messages.{answer_frame, flood_frame, hears_manager, takes_pod}
 use Rattle.pl_switch_rule.specs.Positions.{after_vote, fixes_position, half, with_granted}
 use Rattle.pl_switch_rule.specs.SwitchRule.{comes_from_switch, data_comes}
 use Rattle.std.proofs.lemmas.Bool.{cond_both}
-use Rattle.pl_switch_rule.proofs.Exports.{answers_stay, changes_learn, floods_stay, invalidates_learns, switch_frame_stays}
+use Rattle.pl_switch_rule.proofs.Exports.{answers_stay, changes_learn, floods_stay, invalidates_learns, switch_frame_stays, frees_learn}
 
 pub ports_changes : (old new : SwitchView) → (changes_to old new).view.ports ≡ new.ports
 ports_changes old new = ap (λ (w : SwitchView). w.ports) (changes_learn old new)
@@ -31,7 +31,8 @@ ports_manager choose v (SayAnswer asker asker_ip ip pmac) =
     ap (λ (w : SwitchView). w.ports) (answers_stay choose v (is_granted v asker) (answer_frame asker asker_ip ip pmac))
 ports_manager choose v (Flood asker asker_ip ip) = ap (λ (w : SwitchView). w.ports) (floods_stay v (is_granted v asker) (flood_frame asker asker_ip ip))
 ports_manager choose v (Invalidate before new number ip) =
-    ap (λ (w : SwitchView). w.ports) (invalidates_learns v before (record { new = new; number = number; ip = ip }) (granted v before))
+    ap (λ (w : SwitchView). w.ports) (invalidates_learns v before (record { new = new; number = number; ip = ip }) (held_here v before))
+ports_manager choose v (Release address) = ap (λ (w : SwitchView). w.ports) (frees_learn v address (granted v address))
 
 -- a data frame over a link
 pub ports_carried : (choose : Choice) (v : SwitchView) (port : ℕ) (frame : List ℕ) → (port_of v port).host ≡ false →

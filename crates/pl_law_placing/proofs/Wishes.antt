@@ -6,7 +6,7 @@ use Rattle.pl_layouts.specs.declared.place.Place.{Place}
 use Rattle.pl_node.specs.declared.acts.Act.{Act}
 use Rattle.pl_node.specs.declared.acts.Act.TheVariants.{Tell}
 use Rattle.pl_node.specs.declared.messages.ToManager.{ToManager}
-use Rattle.pl_node.specs.declared.messages.ToManager.TheVariants.{Learned, Link, Members, PodWanted, Query, Place as TellPlace}
+use Rattle.pl_node.specs.declared.messages.ToManager.TheVariants.{Aged, Learned, Link, Members, PodWanted, Query, Place as TellPlace}
 use Rattle.pl_node.specs.SwitchInputs.{SwitchInput}
 use Rattle.pl_node.specs.SwitchViews.{SwitchView}
 use Rattle.pl_steps.specs.Steps.{SwitchStep}
@@ -31,6 +31,8 @@ hosts_ask place = record {
   frames = record { passed = λ port frame way. tt; redirected = λ old new. tt; dropped = λ cause. tt; taken = tt; asked = λ asker asker_ip ip. tt };
   grants = record { granted = λ address amac. tt; learnt = λ address amac ip. tt };
   made = λ frame. tt;
+  aged = λ address number. tt;
+  freed = λ address. tt;
 }
 
 change_asks : (place : Place) → ChangeActs place (MayAsk place)
@@ -49,6 +51,7 @@ asks_at_first place (PodWanted ∷ words) all wish = all.0
 asks_at_first place (TellPlace told ∷ words) all wish = asks_at_first place words all.1 wish
 asks_at_first place (Link neighbour usable ∷ words) all wish = asks_at_first place words all.1 wish
 asks_at_first place (Learned pmac amac ip ∷ words) all wish = asks_at_first place words all.1 wish
+asks_at_first place (Aged pmac number ∷ words) all wish = asks_at_first place words all.1 wish
 asks_at_first place (Query asker asker_ip ip ∷ words) all wish = asks_at_first place words all.1 wish
 asks_at_first place (Members group any ∷ words) all wish = asks_at_first place words all.1 wish
 

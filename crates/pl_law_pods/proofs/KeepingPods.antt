@@ -23,7 +23,9 @@ use Rattle.pl_node.specs.SwitchInputs.{SwitchInput}
 use Rattle.pl_node.specs.SwitchInputs.SwitchInput.{Comes, Says, Tick}
 use Rattle.pl_node.specs.SwitchViews.{SwitchView}
 use Rattle.pl_steps.specs.Steps.{SwitchStep, rests}
+use Rattle.pl_switch_rule.specs.Announcing.{ticks, with_aged_ports}
 use Rattle.pl_switch_rule.specs.SwitchRule.{Loose, control_comes, data_comes, hears_control, switch_step}
+use Rattle.pl_switch_rule.proofs.Exports.{ages_learn}
 use Rattle.pl_manager_rule.specs.ManagerRule.{manager_hears, manager_rule, view_after}
 use Rattle.pl_law_control_plane.specs.ControlPlanes.{AreAdjacent, ControlPlane, message_in, messages_of}
 use Rattle.pl_law_control_plane.specs.PlaneSteps.{IsActed, IsOrderTaken, IsReportTaken, MessageIsTaken, LeftOver, ManagerTurns, PlaneStep, SwitchTurns, ordered}
@@ -167,6 +169,7 @@ module _ (f g : ControlPlane) (is : IsPlan f.plan) (placed : ArePlaced f.plan f)
       by (say.Answer a b c d) first turns = others (say.Answer a b c d) (λ pod same. absurd (cc same)) turns
       by (say.Flood a b c) first turns = others (say.Flood a b c) (λ pod same. absurd (cc same)) turns
       by (say.Invalidate a b c d) first turns = others (say.Invalidate a b c d) (λ pod same. absurd (cc same)) turns
+      by (say.Release a) first turns = others (say.Release a) (λ pod same. absurd (cc same)) turns
 
 -- the manager hears a switch
 managed_given : (f m g : ControlPlane) (s : ℕ) (id : SwitchId) (told : ToManager) → ArePodsGiven f → slice_get f.plan.ids s ≡ Some id → IsReportTaken f s told m →
@@ -206,7 +209,8 @@ plane_given f g is placed apart then_apart given (Left left) =
 plane_given f g is placed apart then_apart given (Ticked s turns) =
     stays f g turns.acted.plan turns.acted.manager
     (turned_given f g is placed apart then_apart f.manager.askers f s Tick (λ t. refl) given given turns
-    (knows_same (f.view s) (own_of f g is placed apart then_apart f s refl) (λ n. ⊥) (f.view s).place refl))
+    (knows_same (f.view s) (own_of f g is placed apart then_apart f s refl) (λ n. ⊥) (ticks (f.view s)).view.place
+    (ap (λ (w : SwitchView). w.place) (ages_learn (with_aged_ports (f.view s))))))
 plane_given f g is placed apart then_apart given (Heard t q s port frame mid adjacent control taken turns) =
     stays f g (turns.acted.plan ∙ taken.left.plan) (turns.acted.manager ∙ taken.left.manager)
     (heard_given f g is placed apart then_apart f.manager.askers mid t q s port frame given adjacent control taken turns)

@@ -1,8 +1,8 @@
 -- What the manager says of pods.
-use Rattle.std.proofs.Common.{◌≡◌, ℕ, ◌+◌, Bool, true, false, if◌then◌else◌, cond, List, [], ◌∷◌, ◌++◌, map, flat_map, Option, Some, None, unwrap_or, IsSome, position, refl, subst, eqb-true}
+use Rattle.std.proofs.Common.{◌≡◌, ℕ, ◌+◌, Bool, true, false, if◌then◌else◌, cond, List, [], ◌∷◌, ◌++◌, map, flat_map, Option, Some, None, unwrap_or, IsSome, position, refl, sym, subst, eqb-true}
 use Rattle.std.specs.List.{AllByRecursion, list_any}
 use Rattle.std.proofs.lemmas.List.Quantifiers.{position-Some}
-use Rattle.pl_lemmas.proofs.Exports.{all_append}
+use Rattle.pl_lemmas.proofs.Exports.{all_append, all_weaker}
 use Rattle.pl_frame.specs.declared.address.Ip4.{Ip4}
 use Rattle.pl_frame.specs.declared.address.SwitchId.{SwitchId}
 use Rattle.pl_frame.proofs.Exports.{same_id}
@@ -18,8 +18,8 @@ use Rattle.pl_node.specs.declared.messages.ToSwitch.TheVariants as say
 use Rattle.pl_node.specs.ManagerViews.{Learnt, ManagerView, Registration, lookup, newest, pod_given, pods_given, registry}
 use Rattle.pl_node.specs.ManagerFacts.{groups}
 use Rattle.pl_node.specs.AvoidLists.{avoid_list}
-use Rattle.pl_manager_rule.specs.ManagerRule.{answer_to, avoid_acts, changed, changed_of_group, invalidation, manager_hears, part_in, reply, tree_acts, tree_acts_of, view_after, with_asker}
-use Rattle.pl_manager_rule.proofs.Exports.{asker_has_pod}
+use Rattle.pl_manager_rule.specs.ManagerRule.{answer_to, avoid_acts, changed, changed_of_group, hears_aged, invalidation, manager_hears, part_in, reply, tree_acts, tree_acts_of, view_after, with_asker}
+use Rattle.pl_manager_rule.proofs.Exports.{aged_releases, asker_has_pod, IsReleaseOf}
 use Rattle.pl_law_control_plane.specs.PlaneSteps.{is_to, ordered, ordered_by}
 use Rattle.pl_law_pods.specs.Pods.{IsPodGiven, id_of}
 use Rattle.pl_law_pods.proofs.NumbersGiven.{number_stays}
@@ -57,6 +57,9 @@ due_reply before s (tell.Place place) = tt
 due_reply before s (tell.Link u usable) = tt
 due_reply before s (tell.Members group any) = tt
 due_reply before s (tell.Query asker asker_ip ip) = (due_answer before.askers s asker asker_ip ip (lookup before.learnt ip), tt)
+due_reply before s (tell.Aged pmac number) =
+    all_weaker (IsReleaseOf before.learnt) (IsDue before.askers) (λ act release. subst (IsDue before.askers) (sym release.is) tt) (hears_aged before.learnt pmac number).acts
+    (aged_releases before.learnt pmac number)
 due_reply before s (tell.Learned pmac amac ip) =
     by (list_any (λ r. same_pmac r.pmac pmac) (registry before.learnt)) (view_after before s (tell.Learned pmac amac ip)).learnt
   where
@@ -91,6 +94,7 @@ askers_then before s (tell.Link u usable) P here all = all
 askers_then before s (tell.Members group any) P here all = all
 askers_then before s (tell.Query asker asker_ip ip) P here all = all
 askers_then before s (tell.Learned pmac amac ip) P here all = all
+askers_then before s (tell.Aged pmac number) P here all = all
 
 -- what was given stays so
 pub given_then : (before : ManagerView) (s t : SwitchId) (told : ToManager) (n : ℕ) → pod_given before.askers t ≡ Some n →
@@ -101,6 +105,7 @@ given_then before s t (tell.Link u usable) n is = is
 given_then before s t (tell.Members group any) n is = is
 given_then before s t (tell.Query asker asker_ip ip) n is = is
 given_then before s t (tell.Learned pmac amac ip) n is = is
+given_then before s t (tell.Aged pmac number) n is = is
 
 pub order_then : (before : ManagerView) (s t : SwitchId) (told : ToManager) (says : ToSwitch) → IsPodGiven before.askers t says →
     IsPodGiven (view_after before s told).askers t says
@@ -109,6 +114,7 @@ order_then before s t told (say.Answer a b c d) is = tt
 order_then before s t told (say.Flood a b c) is = tt
 order_then before s t told (say.Avoid list) is = tt
 order_then before s t told (say.Invalidate a b c d) is = tt
+order_then before s t told (say.Release a) is = tt
 order_then before s t told (say.Tree group part) is = tt
 
 -- The switch to which an act speaks.

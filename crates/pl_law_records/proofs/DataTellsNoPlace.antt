@@ -1,12 +1,12 @@
 -- Granting addresses and passing frames on tells the manager nothing of the place or of members.
-use Rattle.std.proofs.Common.{◌≡◌, ℕ, get_or, false, List, None, refl, ◌∙◌, ap, sym, subst}
+use Rattle.std.proofs.Common.{◌≡◌, ℕ, get_or, false, List, None, Option, refl, ◌∙◌, ap, sym, subst}
 use Rattle.pl_pmac.specs.declared.pmac.Pmac.{Pmac}
 use Rattle.pl_node.specs.declared.switch_records.Grant.{Grant}
 use Rattle.pl_node.specs.SwitchViews.{SwitchView}
 use Rattle.pl_steps.specs.Steps.{does, ◌▹◌}
 use Rattle.pl_switch_rule.specs.Delivering.{addresses, makes}
+use Rattle.pl_switch_rule.specs.Aging.{ages, with_older}
 use Rattle.pl_switch_rule.specs.Forwarding.{Choice}
-use Rattle.pl_switch_rule.specs.Granting.{granted}
 use Rattle.pl_switch_rule.specs.Intake.{has_member_of}
 use Rattle.pl_switch_rule.specs.Levels.{changes_to, settles_in}
 use Rattle.pl_switch_rule.specs.Telling.{changes_told}
@@ -22,9 +22,9 @@ use Rattle.pl_layouts.specs.Frames.{packet_in}
 use Rattle.pl_steps.specs.Steps.{SwitchStep}
 use Rattle.pl_switch_rule.specs.Granting.{learns_source}
 use Rattle.pl_switch_rule.specs.Intake.{packet_acts, sends_in, takes}
-use Rattle.pl_switch_rule.specs.Messages.{floods, probes}
+use Rattle.pl_switch_rule.specs.Messages.{floods, frees, probes}
 use Rattle.pl_switch_rule.specs.SwitchRule.{comes_from_switch}
-use Rattle.pl_switch_rule.proofs.Exports.{any_group, any_way, begins_stays, floods_acts, FrameActs, GrantActs, IsAnyPort, learns_source_acts, LearnsSources, makes_acts, packet_taken_acts, probes_acts, probes_stay, sends_in_acts, sends_in_stays, settles_in_acts, settles_in_learns, source_learns, switch_frame_acts, switch_frame_stays}
+use Rattle.pl_switch_rule.proofs.Exports.{ages_acts, ages_alone, any_group, any_way, begins_stays, floods_acts, FrameActs, frees_acts, frees_learn, GrantActs, idle_acts, IsAnyPort, learns_source_acts, LearnsSources, makes_acts, packet_taken_acts, probes_acts, probes_stay, sends_in_acts, sends_in_stays, settles_in_acts, settles_in_learns, source_learns, switch_frame_acts, switch_frame_stays}
 
 -- Granting addresses.
 
@@ -37,6 +37,18 @@ sources_still v s learns unsaid =
     (ap (λ (w : SwitchView). w.parts) learns) (ap (λ (w : SwitchView). w.id) learns) (ap (λ (w : SwitchView). w.k) learns)
     (ap (λ (w : SwitchView). w.ports) learns)
     unsaid
+
+-- Addresses age, and are freed.
+
+pub ages_still : (v : SwitchView) → IsStill v (ages v)
+ages_still v =
+    let alone = ages_alone v in
+    step_still v (ages v).view (ages v).acts (ap (λ (w : SwitchView). w.place) alone) (ap (λ (w : SwitchView). w.members) alone) (ap (λ (w : SwitchView). w.avoid) alone)
+    (ap (λ (w : SwitchView). w.parts) alone) (ap (λ (w : SwitchView). w.id) alone) (ap (λ (w : SwitchView). w.k) alone) (ap (λ (w : SwitchView). w.ports) alone)
+    (ages_acts IsUnsaid (λ x number. tt) v (idle_acts IsUnsaid IsAnyPort (λ port frame way. tt) (with_older v) (λ x grant is. tt) (λ x ip. tt)))
+
+pub frees_still : (v : SwitchView) (address : Pmac) (grant : Option Grant) → IsStill v (frees v address grant)
+frees_still v address grant = sources_still v (frees v address grant) (frees_learn v address grant) (frees_acts IsUnsaid (λ x. tt) v address grant)
 
 pub learns_source_still : (v : SwitchView) (port : ℕ) (frame : List ℕ) → IsStill v (learns_source v port frame)
 learns_source_still v port frame =
@@ -87,7 +99,7 @@ floods_still frame v = stays_still v (floods v frame) refl (floods_acts IsUnsaid
 
 pub probes_still : (old : Pmac) (grant : Grant) (v : SwitchView) → IsStill v (probes old grant v)
 probes_still old grant v =
-    stays_still v (probes old grant v) (probes_stay old grant v) (probes_acts IsUnsaid IsAnyPort unsaid_frames old grant v tt (λ ip. tt))
+    stays_still v (probes old grant v) (probes_stay old grant v) (probes_acts IsUnsaid IsAnyPort unsaid_frames.passed old grant v tt (λ ip. tt))
 
 pub packet_still : (v : SwitchView) (port : ℕ) (frame : List ℕ) → IsStill v (does v (packet_acts v port frame (packet_in frame)) ▹ takes)
 packet_still v port frame =

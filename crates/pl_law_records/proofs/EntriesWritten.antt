@@ -86,6 +86,7 @@ quiet_acts = record {
   copied = λ id copy. (refl, refl);
   made = λ id s frame. (refl, refl);
   granted = λ pmac h s port. (refl, refl);
+  freed = λ pmac. (refl, refl);
   redirected = λ id old new. (refl, refl);
   taken = λ id s. (refl, refl);
 }

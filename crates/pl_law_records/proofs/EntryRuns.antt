@@ -1,22 +1,26 @@
 -- What follows for one step, and for runs.
-use Rattle.std.proofs.Common.{◌≡◌, ℕ, zero, suc, ◌+◌, ◌≤◌, ◌==◌, Bool, true, false, if◌then◌else◌, List, [], ◌∷◌, ◌++◌, length, map, reverse, drop, set, slice_get, Option, Some, None, refl, sym, ap, ◌∙◌, subst, arith, append-nil, append_assoc, eq-eqb, ne_eqb, inl, inr, ◌⊎◌}
-use Rattle.std.specs.List.{AllByRecursion, cons_option, filter_map, range_with_len}
+use Rattle.std.proofs.Common.{◌≡◌, ℕ, zero, suc, ◌+◌, ◌≤◌, ◌==◌, Bool, true, false, if◌then◌else◌, cond, List, [], ◌∷◌, ◌++◌, length, map, reverse, drop, set, slice_get, Option, Some, None, refl, sym, ap, ◌∙◌, subst, arith, append-nil, append_assoc, eq-eqb, ne_eqb, inl, inr, ◌⊎◌}
+use Rattle.std.specs.List.{AllByRecursion, cons_option, filter_map, find, range_with_len}
 use Rattle.std.proofs.Math.Seq.{drop-append_seam}
-use Rattle.std.proofs.lemmas.Option.{same_Some}
+use Rattle.std.specs.Prelude.{Contains}
+use Rattle.std.proofs.lemmas.Bool.{false≢true}
+use Rattle.std.proofs.lemmas.Option.{none-some, same_Some}
 use Rattle.std.proofs.lemmas.List.{length-append, length_push, map-append, reverse-append}
 use Rattle.std.proofs.lemmas.List.Elements.{filter_map-append}
 use Rattle.pl_lemmas.proofs.Exports.{range_more}
 use Rattle.pl_frame.specs.declared.address.SwitchId.{SwitchId}
 use Rattle.pl_pmac.specs.declared.pmac.Pmac.{Pmac}
 use Rattle.pl_layouts.specs.declared.place.Place.{Place}
+use Rattle.pl_layouts.specs.Equality.{same_pmac}
 use Rattle.pl_layouts.specs.Placement.{nowhere, same_place}
-use Rattle.pl_layouts.proofs.Exports.{place_is, place_itself}
+use Rattle.pl_layouts.proofs.Exports.{place_is, place_itself, pmac_is}
 use Rattle.pl_wiring.specs.Plan.{Plan}
 use Rattle.pl_journal.specs.declared.entry.Entry.{Entry}
 use Rattle.pl_journal.specs.declared.entry.Entry.TheVariants.{Arrived, Copied, Crossed, Dropped, Freed, Granted, Line, LinkDown, LinkUp, Made, Moved, Placed, Redirected, Registered, Sent, Settled, Skipped, Taken, Unsettled}
 use Rattle.pl_node.specs.HostInputs.{HostRule}
+use Rattle.pl_node.proofs.Exports.{among_of_Contains, Contains-of_among, nothing_numbered}
 use Rattle.pl_node.specs.ManagerDuties.{AnswersDuly, AreNumbered, ManagerRule, numbered_by, with_number}
-use Rattle.pl_node.specs.ManagerViews.{Learnt, registry}
+use Rattle.pl_node.specs.ManagerViews.{Learnt, Registration, registration, registry}
 use Rattle.pl_node.specs.SwitchFacts.{switch_at_boot}
 use Rattle.pl_node.specs.SwitchInputs.{SwitchRule}
 use Rattle.pl_node.specs.SwitchViews.{SwitchView}
@@ -73,7 +77,7 @@ module _ (switch : SwitchRule) (manager : ManagerRule) (host : HostRule) (old : 
       none : (registered : List (Pmac × ℕ)) → registered ≡ [] → new.manager ≡ old.manager → AreNumbered old.manager.learnt new.manager.learnt registered
       none registered is same =
           subst (AreNumbered old.manager.learnt new.manager.learnt) (sym is)
-          (subst (λ m. AreNumbered old.manager.learnt m.learnt []) (sym same) (record { registered = refl; count = omega arith; next = tt }))
+          (subst (λ m. AreNumbered old.manager.learnt m.learnt []) (sym same) (nothing_numbered old.manager.learnt))
 
       by : Outcome manager old new → AreNumbered old.manager.learnt new.manager.learnt (registrations (written old new))
       by (Neither q) = none (registrations (written old new)) (ap registrations (entries_written old new [] [] q.adds) ∙ q.adds.of_registrations) q.manager
@@ -240,9 +244,9 @@ written_at_first plan limits s v found = nowhere_yet plan.ids s found
 
 -- Registrations.
 
--- those of the journal are the manager's, which has the newest first; they are counted, and numbered in order
+-- a registered address has the number that the journal gave it last; numbers are counted, and given in order
 pub record AreRegistered (registered : List (Pmac × ℕ)) (learnt : Learnt) : Type 0 where
-  pub same : reverse registered ≡ map with_number (registry learnt)
+  pub last : (x : Pmac) (r : Registration) → registration learnt x ≡ Some r → find (λ g. same_pmac g.0 x) (reverse registered) ≡ Some (with_number r)
   pub count : learnt.count ≡ length registered
   pub numbers : map (λ (r : Pmac × ℕ). r.1) registered ≡ range_with_len 1 (length registered)
 
@@ -261,10 +265,47 @@ numbers_more rs (x ∷ []) n few next is before =
     ∙ ap (λ m. range_with_len 1 (length rs) ++ m ∷ []) number ∙ sym (range_more 1 (length rs)) ∙ ap (range_with_len 1) (sym long)
 numbers_more rs (x ∷ y ∷ more) n few next is before = absurd (omega (arith, few))
 
-few_reversed : {X : Type 0} (xs : List X) → length xs ≤ 1 → reverse xs ≡ xs
-few_reversed [] few = refl
-few_reversed (x ∷ []) few = refl
-few_reversed (x ∷ y ∷ xs) few = absurd (omega (arith, few))
+found_passes : {X : Type 0} (test : X → Bool) (xs : List X) (x : X) → find test xs ≡ Some x → test x ≡ true
+found_passes test [] x found = absurd (none-some x found)
+found_passes test (y ∷ xs) x found = by (λ at. found_passes test xs x at) (test y) refl found
+  where
+    by : (find test xs ≡ Some x → test x ≡ true) → (b : Bool) → test y ≡ b → cond b (Some y) (find test xs) ≡ Some x → test x ≡ true
+    by behind true passes at = ap test (sym (same_Some y x at)) ∙ passes
+    by behind false fails at = behind at
+
+-- those that are given numbers in a step have the next one
+next_given : (before after : Learnt) (more : List (Pmac × ℕ)) → length more ≤ 1 → AreNumbered before after more → AllByRecursion (λ (r : Pmac × ℕ). r.1 ≡ after.count) more
+next_given before after [] few given = tt
+next_given before after (g ∷ []) few given = ((given.numbers g.0 g.1 (Contains-of_among g (g ∷ []) (inl refl))).1, tt)
+next_given before after (x ∷ y ∷ more) few given = absurd (omega (arith, few))
+
+-- and of an address that is registered then the last number stands behind all others
+last_given : (before after : Learnt) (rs more : List (Pmac × ℕ)) → length more ≤ 1 → AreNumbered before after more →
+    ((x : Pmac) (r : Registration) → registration before x ≡ Some r → find (λ g. same_pmac g.0 x) (reverse rs) ≡ Some (with_number r)) →
+    (x : Pmac) (r : Registration) → registration after x ≡ Some r → find (λ g. same_pmac g.0 x) (reverse (rs ++ more)) ≡ Some (with_number r)
+last_given before after rs [] few given last x r is = elim (given.registered x r is) [
+  | inl was ↦ subst (λ (xs : List (Pmac × ℕ)). find (λ g. same_pmac g.0 x) (reverse xs) ≡ Some (with_number r)) (sym (append-nil rs)) (last x r was)
+  | inr never ↦ absurd (among_of_Contains (with_number r) [] never)
+]
+last_given before after rs (g ∷ []) few given last x r is =
+    ap (find (λ g. same_pmac g.0 x)) (reverse-append rs (g ∷ [])) ∙ by (same_pmac g.0 x) refl (given.registered x r is)
+  where
+    -- it is not the one that has a number since now
+    new : same_pmac g.0 x ≡ true → registration before x ≡ Some r → ⊥
+    new same was =
+        none-some r (sym (subst (λ y. registration before y ≡ None) (pmac_is g.0 x same) (given.numbers g.0 g.1 (Contains-of_among g (g ∷ []) (inl refl))).0) ∙ was)
+
+    one : Contains (g ∷ []) (with_number r) → g ≡ with_number r
+    one given_now = elim (among_of_Contains (with_number r) (g ∷ []) given_now) [ inl here ↦ here | inr never ↦ absurd never ]
+
+    by : (b : Bool) → same_pmac g.0 x ≡ b → (registration before x ≡ Some r) ⊎ Contains (g ∷ []) (with_number r) →
+        cond b (Some g) (find (λ g. same_pmac g.0 x) (reverse rs)) ≡ Some (with_number r)
+    by true same (inl was) = absurd (new same was)
+    by true same (inr given_now) = ap Some (one given_now)
+    by false other (inl was) = last x r was
+    by false other (inr given_now) =
+        absurd (false≢true (sym other ∙ ap (λ (h : Pmac × ℕ). same_pmac h.0 x) (one given_now) ∙ found_passes (λ (s : Registration). same_pmac s.pmac x) (registry after) r is))
+last_given before after rs (f ∷ g ∷ more) few given last x r is = absurd (omega (arith, few))
 
 module _ (switch : SwitchRule) (manager : ManagerRule) (host : HostRule) (duly : AnswersDuly manager) where
   step_registered : (old : WorldView) (happens : Event) (new : WorldView) → WorldStep switch manager host old happens new → HasRegistered old → HasRegistered new
@@ -277,9 +318,9 @@ module _ (switch : SwitchRule) (manager : ManagerRule) (host : HostRule) (duly :
       ap registrations (journal_grows switch manager host old happens new step) ∙ filter_map-append registration_in old.journal (written old new) in
       let counted : new.manager.learnt.count ≡ length more + length rs = given.count ∙ ap (λ n. length more + n) are.count in
       subst (λ those. AreRegistered those new.manager.learnt) (sym all) (record {
-        same = reverse-append rs more ∙ ap (λ xs. xs ++ reverse rs) (few_reversed more few) ∙ ap (λ xs. more ++ xs) are.same ∙ sym given.registered;
+        last = last_given old.manager.learnt new.manager.learnt rs more few given are.last;
         count = let long = length-append rs more in omega (arith, counted, long);
-        numbers = numbers_more rs more new.manager.learnt.count few given.next counted are.numbers;
+        numbers = numbers_more rs more new.manager.learnt.count few (next_given old.manager.learnt new.manager.learnt more few given) counted are.numbers;
       })
 
   marked_registered : (old : WorldView) (entry : Entry) → IsMark entry → HasRegistered old → HasRegistered (noted old entry)
@@ -295,4 +336,4 @@ module _ (switch : SwitchRule) (manager : ManagerRule) (host : HostRule) (duly :
       run_registered run.0 moments new (subst HasRegistered (sym run.1.1) (marked_registered old entry run.1.0 are)) run.2
 
 pub registered_at_first : (plan : Plan) (limits : Limits) → HasRegistered (booted plan limits)
-registered_at_first plan limits = record { same = refl; count = refl; numbers = refl }
+registered_at_first plan limits = record { last = λ x r is. absurd (none-some r is); count = refl; numbers = refl }

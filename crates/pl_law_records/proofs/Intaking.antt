@@ -1,9 +1,10 @@
 -- What a switch tells the manager where a data frame comes, and where the manager is heard.
-use Rattle.std.proofs.Common.{◌≡◌, ℕ, ◌||◌, Bool, true, false, List, [], ◌∷◌, ◌++◌, Option, Some, None, refl, ◌∙◌, ap, sym}
+use Rattle.std.proofs.Common.{◌≡◌, ℕ, ◌||◌, nat_lt, Bool, true, false, List, [], ◌∷◌, ◌++◌, Option, Some, None, refl, ◌∙◌, ap, sym}
 use Rattle.pl_pmac.specs.declared.pmac.Pmac.{Pmac}
 use Rattle.pl_node.specs.declared.acts.Act.TheVariants.{Drop}
 use Rattle.pl_node.specs.declared.messages.ToSwitch.{ToSwitch}
-use Rattle.pl_node.specs.declared.messages.ToSwitch.TheVariants.{Answer, Avoid, Flood, Invalidate, Pod, Tree}
+use Rattle.pl_node.specs.declared.messages.ToSwitch.TheVariants.{Answer, Avoid, Flood, Invalidate, Pod, Release, Tree}
+use Rattle.pl_node.specs.AddressUses.{standing_trap}
 use Rattle.pl_node.specs.declared.switch_records.Grant.{Grant}
 use Rattle.pl_node.specs.declared.switch_records.Member.{Member}
 use Rattle.pl_node.specs.declared.trap.Trap.{Trap}
@@ -14,10 +15,10 @@ use Rattle.pl_layouts.specs.Placement.{is_known}
 use Rattle.pl_steps.specs.Steps.{SwitchStep, does, rests, ◌▹◌}
 use Rattle.pl_switch_rule.specs.Delivering.{makes}
 use Rattle.pl_switch_rule.specs.Forwarding.{Choice}
-use Rattle.pl_switch_rule.specs.Granting.{granted, is_granted, learns_source}
+use Rattle.pl_switch_rule.specs.Granting.{granted, held_here, is_granted, learns_source}
 use Rattle.pl_switch_rule.specs.Intake.{comes_from_host, groups_of, has_member_of, hears_members, members_become, takes, takes_in_or_spent, with_pmac}
 use Rattle.pl_switch_rule.specs.Levels.{becomes_edge, changes_to, finds_host, with_pod}
-use Rattle.pl_switch_rule.specs.Messages.{answer_frame, flood_frame, floods, forgets_members, hears_manager, invalidates, probes, sets_trap, takes_pod, hears_pod}
+use Rattle.pl_switch_rule.specs.Messages.{answer_frame, flood_frame, floods, forgets_members, hears_manager, invalidates, probes, sets_trap, sets_trap_over, takes_pod, hears_pod, with_trap}
 use Rattle.pl_switch_rule.specs.SwitchRule.{comes_from_switch, data_comes}
 use Rattle.std.specs.Prelude.{unwrap_or}
 use Rattle.pl_node.specs.declared.messages.TreePart.{TreePart}
@@ -26,7 +27,7 @@ use Rattle.pl_switch_rule.specs.Messages.{with_part}
 use Rattle.pl_law_control_plane.specs.ControlPlanes.{tells}
 use Rattle.pl_law_records.specs.Words.{avoid_said, last_said}
 use Rattle.std.proofs.Common.{length, inl, inr, get_or-set_same, get_or-set_other}
-use Rattle.std.proofs.lemmas.Bool.{cases_eq, cases_lt}
+use Rattle.std.proofs.lemmas.Bool.{cases_eq, cases_lt, cond_both}
 use Rattle.std.proofs.lemmas.List.{get_or_past}
 use Rattle.pl_frame.specs.declared.address.SwitchId.{SwitchId}
 use Rattle.pl_node.specs.declared.neighbour.Neighbour.{Neighbour}
@@ -34,7 +35,7 @@ use Rattle.pl_node.specs.declared.neighbour.PortRecord.{PortRecord}
 use Rattle.pl_node.specs.PortRecords.{heard_id, id_at, is_usable, new_port}
 use Rattle.pl_law_records.proofs.Linking.{IsOnlyAt, LinksAreTold, either_told, still_told, then_told, unheard}
 use Rattle.pl_law_records.proofs.TellingLinks.{IsStill, does_still, either_still, groups_are_told, groups_no_link, groups_no_place, rests_still, step_still, then_still}
-use Rattle.pl_law_records.proofs.DataTellsNoPlace.{changes_right, floods_still, learns_source_still, makes_still, packet_still, probes_still, sends_in_still, switch_frame_still}
+use Rattle.pl_law_records.proofs.DataTellsNoPlace.{changes_right, floods_still, frees_still, learns_source_still, makes_still, packet_still, probes_still, sends_in_still, switch_frame_still}
 use Rattle.pl_switch_rule.proofs.Exports.{taken_in}
 
 -- Frames of hosts.
@@ -99,12 +100,18 @@ data_right choose v port frame =
 
 -- The manager is heard.
 
+set_still : (v : SwitchView) (old : Pmac) (grant : Grant) (trap : Trap) (standing : Option Trap) → IsStill v (does (sets_trap_over standing v old grant trap) [])
+set_still v old grant trap None = step_still v _ _ refl refl refl refl refl refl refl tt
+set_still v old grant trap (Some standing) =
+    cond_both (nat_lt trap.number standing.number) v (with_trap v old grant trap) (λ (w : SwitchView). IsStill v (does w [])) (λ smaller. rests_still v)
+    (λ larger. step_still v _ _ refl refl refl refl refl refl refl tt)
+
 invalidates_still : (v : SwitchView) (old : Pmac) (trap : Trap) (grant : Option Grant) → IsStill v (invalidates v old trap grant)
 invalidates_still v old trap None = rests_still v
 invalidates_still v old trap (Some grant) =
     let first = does (sets_trap v old grant trap) [] in
     then_still v (first ▹ forgets_members old.port grant.amac) (probes old grant)
-    (then_still v first (forgets_members old.port grant.amac) (step_still v _ _ refl refl refl refl refl refl refl tt) (λ w. members_become_still w _))
+    (then_still v first (forgets_members old.port grant.amac) (set_still v old grant trap (standing_trap grant.held)) (λ w. members_become_still w _))
     (probes_still old grant)
 
 -- the parts of a switch once the manager said this
@@ -140,5 +147,8 @@ manager_obeyed choose v (Flood asker asker_ip ip) =
     (floods_still (flood_frame asker asker_ip ip) v) (rests_still v)) in
     record { place = a.telling.place; members = a.telling.members; links = a.links; others = a.others; avoid = a.telling.avoid; parts = a.telling.parts }
 manager_obeyed choose v (Invalidate old new number ip) =
-    let a = still_told v _ (invalidates_still v old (record { new = new; number = number; ip = ip }) (granted v old)) in
+    let a = still_told v _ (invalidates_still v old (record { new = new; number = number; ip = ip }) (held_here v old)) in
+    record { place = a.telling.place; members = a.telling.members; links = a.links; others = a.others; avoid = a.telling.avoid; parts = a.telling.parts }
+manager_obeyed choose v (Release address) =
+    let a = still_told v _ (frees_still v address (granted v address)) in
     record { place = a.telling.place; members = a.telling.members; links = a.links; others = a.others; avoid = a.telling.avoid; parts = a.telling.parts }

@@ -27,6 +27,7 @@ no_place (tell.Place place) is = absurd is
 no_place (tell.Link u usable) is = refl
 no_place tell.PodWanted is = refl
 no_place (tell.Learned a b c) is = refl
+no_place (tell.Aged a b) is = refl
 no_place (tell.Query a b c) is = refl
 no_place (tell.Members g any) is = refl
 
@@ -35,6 +36,7 @@ no_members group (tell.Place place) is = refl
 no_members group (tell.Link u usable) is = refl
 no_members group tell.PodWanted is = refl
 no_members group (tell.Learned a b c) is = refl
+no_members group (tell.Aged a b) is = refl
 no_members group (tell.Query a b c) is = refl
 no_members group (tell.Members g any) is = absurd is
 
@@ -44,6 +46,7 @@ no_avoid (say.Answer a b c d) is = refl
 no_avoid (say.Flood a b c) is = refl
 no_avoid (say.Avoid list) is = absurd is
 no_avoid (say.Invalidate a b c d) is = refl
+no_avoid (say.Release a) is = refl
 no_avoid (say.Tree group part) is = refl
 
 pub no_part : (group : ℕ) (w : ToSwitch) → IsNoOrder w → part_said group w ≡ None
@@ -52,6 +55,7 @@ no_part group (say.Answer a b c d) is = refl
 no_part group (say.Flood a b c) is = refl
 no_part group (say.Avoid list) is = refl
 no_part group (say.Invalidate a b c d) is = refl
+no_part group (say.Release a) is = refl
 no_part group (say.Tree g part) is = absurd is
 
 pub silent_place : (ws : List ToManager) → AllByRecursion IsNoReport ws → AllByRecursion (λ w. place_said w ≡ None) ws
@@ -65,6 +69,7 @@ no_link u (tell.Place place) is = refl
 no_link u (tell.Link x usable) is = absurd is
 no_link u tell.PodWanted is = refl
 no_link u (tell.Learned a b c) is = refl
+no_link u (tell.Aged a b) is = refl
 no_link u (tell.Query a b c) is = refl
 no_link u (tell.Members g any) is = refl
 

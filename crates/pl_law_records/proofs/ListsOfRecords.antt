@@ -145,6 +145,7 @@ tellers_stay view s t (tell.Link u usable) h = elim (among_append t (map (λ p. 
 ]
 tellers_stay view s t tell.PodWanted h = h
 tellers_stay view s t (tell.Learned a b c) h = h
+tellers_stay view s t (tell.Aged a b) h = h
 tellers_stay view s t (tell.Query a b c) h = h
 tellers_stay view s t (tell.Members g any) h = h
 
@@ -159,6 +160,7 @@ groups_stay view s group (tell.Place place) h = h
 groups_stay view s group (tell.Link u usable) h = h
 groups_stay view s group tell.PodWanted h = h
 groups_stay view s group (tell.Learned a b c) h = h
+groups_stay view s group (tell.Aged a b) h = h
 groups_stay view s group (tell.Query a b c) h = h
 
 -- What is sent.

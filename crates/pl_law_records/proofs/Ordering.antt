@@ -109,6 +109,7 @@ module _ (group : ℕ) where
   part_after (say.Answer a b c d) parts rising = refl
   part_after (say.Flood a b c) parts rising = refl
   part_after (say.Invalidate a b c d) parts rising = refl
+  part_after (say.Release a) parts rising = refl
 
 keys_removed : (P : ℕ → Type 0) (g : ℕ) (es : List (ℕ × TreePart)) → AllByRecursion P (keys_of es) → AllByRecursion P (keys_of (remove_entry (λ h. h == g) es))
 keys_removed P g [] all = tt
@@ -135,6 +136,7 @@ rising_after (say.Avoid list) parts rising = rising
 rising_after (say.Answer a b c d) parts rising = rising
 rising_after (say.Flood a b c) parts rising = rising
 rising_after (say.Invalidate a b c d) parts rising = rising
+rising_after (say.Release a) parts rising = rising
 
 -- What one switch owes stays where what it holds, what waits for it and the manager stay.
 

@@ -9,5 +9,6 @@ question_reports_nothing (tell.Place place) is = absurd is
 question_reports_nothing (tell.Link neighbour usable) is = absurd is
 question_reports_nothing tell.PodWanted is = absurd is
 question_reports_nothing (tell.Learned pmac amac ip) is = absurd is
+question_reports_nothing (tell.Aged pmac number) is = absurd is
 question_reports_nothing (tell.Query asker asker_ip ip) is = tt
 question_reports_nothing (tell.Members group any) is = absurd is

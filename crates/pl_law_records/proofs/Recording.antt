@@ -40,6 +40,7 @@ module _ (view : ManagerView) (s t : SwitchId) where
   place_heard (tell.Link u usable) = quiet (same_switch s t) (place_of view.told t)
   place_heard tell.PodWanted = quiet (same_switch s t) (place_of view.told t)
   place_heard (tell.Learned a b c) = quiet (same_switch s t) (place_of view.told t)
+  place_heard (tell.Aged a b) = quiet (same_switch s t) (place_of view.told t)
   place_heard (tell.Query a b c) = quiet (same_switch s t) (place_of view.told t)
   place_heard (tell.Members g any) = quiet (same_switch s t) (place_of view.told t)
 
@@ -57,6 +58,7 @@ module _ (view : ManagerView) (s t : SwitchId) where
   members_heard group (tell.Link u usable) = quiet (same_switch s t) (has_told_members view.members t group)
   members_heard group tell.PodWanted = quiet (same_switch s t) (has_told_members view.members t group)
   members_heard group (tell.Learned a b c) = quiet (same_switch s t) (has_told_members view.members t group)
+  members_heard group (tell.Aged a b) = quiet (same_switch s t) (has_told_members view.members t group)
   members_heard group (tell.Query a b c) = quiet (same_switch s t) (has_told_members view.members t group)
 
 module _ (view : ManagerView) (s t u : SwitchId) where
@@ -73,6 +75,7 @@ module _ (view : ManagerView) (s t u : SwitchId) where
   link_heard (tell.Place place) = quiet (same_switch s t) (is_told_usable view.told t u)
   link_heard tell.PodWanted = quiet (same_switch s t) (is_told_usable view.told t u)
   link_heard (tell.Learned a b c) = quiet (same_switch s t) (is_told_usable view.told t u)
+  link_heard (tell.Aged a b) = quiet (same_switch s t) (is_told_usable view.told t u)
   link_heard (tell.Query a b c) = quiet (same_switch s t) (is_told_usable view.told t u)
   link_heard (tell.Members g any) = quiet (same_switch s t) (is_told_usable view.told t u)
 

@@ -3,6 +3,7 @@ use Rattle.std.proofs.Common.{◌≡◌, ℕ, ◌+◌, ◌==◌, Bool, true, fal
 use Rattle.std.specs.List.{AllByRecursion, list_any}
 use Rattle.std.proofs.lemmas.List.Quantifiers.{position-Some}
 use Rattle.std.proofs.lemmas.Option.{get_or_from_slice_get}
+use Rattle.pl_lemmas.proofs.Exports.{all_weaker}
 use Rattle.pl_frame.specs.declared.address.Ip4.{Ip4}
 use Rattle.pl_frame.specs.declared.address.SwitchId.{SwitchId}
 use Rattle.pl_pmac.specs.declared.pmac.Pmac.{Pmac}
@@ -16,7 +17,8 @@ use Rattle.pl_node.specs.declared.messages.ToManager.TheVariants as tell
 use Rattle.pl_node.specs.declared.messages.ToSwitch.{ToSwitch}
 use Rattle.pl_node.specs.ManagerViews.{Learnt, ManagerView, Registration, lookup, newest, registry}
 use Rattle.pl_node.proofs.Exports.{IsAmong}
-use Rattle.pl_manager_rule.specs.ManagerRule.{answer_to, invalidation, reply}
+use Rattle.pl_manager_rule.specs.ManagerRule.{answer_to, hears_aged, invalidation, reply}
+use Rattle.pl_manager_rule.proofs.Exports.{aged_releases, IsReleaseOf}
 use Rattle.pl_manager_rule.proofs.Exports.{same_is}
 use Rattle.pl_law_addresses.proofs.Exports.{place_is}
 use Rattle.pl_law_control_plane.specs.PlaneSteps.{is_to, ordered}
@@ -121,6 +123,9 @@ answer_orders_nothing asker asker_ip ip None = tt
 answer_orders_nothing asker asker_ip ip (Some pmac) = tt
 
 reply_orders_nothing : (before after : ManagerView) (s : SwitchId) (told : ToManager) → AllByRecursion OrdersNothing (reply before after s told)
+reply_orders_nothing before after s (tell.Aged pmac number) =
+    all_weaker (IsReleaseOf before.learnt) OrdersNothing (λ act release. subst OrdersNothing (sym release.is) tt) (hears_aged before.learnt pmac number).acts
+    (aged_releases before.learnt pmac number)
 reply_orders_nothing before after s tell.PodWanted = (tt, tt)
 reply_orders_nothing before after s (tell.Place place) = tt
 reply_orders_nothing before after s (tell.Link u usable) = tt

@@ -19,7 +19,8 @@ use Rattle.pl_node.specs.SwitchInputs.SwitchInput.{Comes, Says, Tick}
 use Rattle.pl_node.specs.SwitchViews.{SwitchView}
 use Rattle.pl_manager_rule.specs.Histories.{link_said, members_said, place_said}
 use Rattle.pl_steps.specs.Steps.{SwitchStep, rests}
-use Rattle.pl_switch_rule.specs.Announcing.{announcements, ticks, with_aged_ports}
+use Rattle.pl_switch_rule.specs.Aging.{ages}
+use Rattle.pl_switch_rule.specs.Announcing.{announcements, tells_neighbours, ticks, with_aged_ports}
 use Rattle.pl_switch_rule.specs.Forwarding.{Choice}
 use Rattle.pl_switch_rule.specs.Intake.{has_member_of}
 use Rattle.pl_switch_rule.specs.Levels.{after_message, changes_to, hears_message, learns_level, learns_pod, notes_edge, with_message}
@@ -31,9 +32,9 @@ use Rattle.pl_law_records.specs.Words.{avoid_said, last_said}
 use Rattle.pl_node.specs.declared.neighbour.PortRecord.{PortRecord}
 use Rattle.pl_switch_rule.proofs.Exports.{announced_acts, proposal_acts, proposal_holds}
 use Rattle.pl_law_records.proofs.TellingLinks.{AreUnsaid, IsStill, IsUnsaid, rests_still, said_more, step_still, told_no_members, told_place, unsaid_words}
-use Rattle.pl_law_records.proofs.Linking.{IsOnlyAt, LinksAreTold, either_told, still_told, told_link, told_no_other, unheard}
+use Rattle.pl_law_records.proofs.Linking.{IsOnlyAt, LinksAreTold, either_told, still_told, then_told, told_link, told_no_other, unheard}
 use Rattle.pl_law_records.proofs.Last.{last_silent, silent_link, silent_members, silent_place}
-use Rattle.pl_law_records.proofs.DataTellsNoPlace.{changes_right}
+use Rattle.pl_law_records.proofs.DataTellsNoPlace.{ages_still, changes_right}
 use Rattle.pl_law_records.proofs.Intaking.{data_right, manager_obeyed, parts_after, silent_with}
 
 -- the avoid list and the parts once this came
@@ -115,8 +116,8 @@ aged_at [] p = refl
 aged_at (r ∷ rs) zero = refl
 aged_at (r ∷ rs) (suc p) = aged_at rs p
 
-tick_told : (v : SwitchView) → LinksAreTold v (ticks v)
-tick_told v =
+neighbours_told : (v : SwitchView) → LinksAreTold v (tells_neighbours v)
+neighbours_told v =
     let new = with_aged_ports v in
     let told = changes_told v new in
     let rest = announcements new in
@@ -137,6 +138,9 @@ tick_told v =
       others = λ u nowhere before.
           said_more (link_said u) before told rest ∙ last_silent (link_said u) _ (tells rest) (silent_link u (tells rest) words) ∙ told_no_other v new u nowhere before;
     }
+
+tick_told : (v : SwitchView) → LinksAreTold v (ticks v)
+tick_told v = then_told v (tells_neighbours v) ages (neighbours_told v) ages_still
 
 pub tells_right : (choose : Choice) (v : SwitchView) (input : SwitchInput) → TellsRight input v (switch_step choose v input)
 tells_right choose v Tick = let a = tick_told v in record { place = a.telling.place; members = a.telling.members; links = a.links; others = a.others; avoid = a.telling.avoid; parts = a.telling.parts }

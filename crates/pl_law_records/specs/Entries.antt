@@ -1,7 +1,8 @@
 -- What entries say of places and of registrations.
-use Rattle.std.specs.Prelude.{ℕ, ◌+◌, ◌==◌, if◌then◌else◌, List, [], ◌∷◌, Option, Some, None}
-use Rattle.std.specs.List.{filter_map}
+use Rattle.std.specs.Prelude.{ℕ, ◌+◌, ◌==◌, if◌then◌else◌, List, [], ◌∷◌, Option, Some, None, reverse}
+use Rattle.std.specs.List.{filter_map, find}
 use Rattle.pl_pmac.specs.declared.pmac.Pmac.{Pmac}
+use Rattle.pl_layouts.specs.Equality.{same_pmac}
 use Rattle.pl_layouts.specs.declared.place.Place.{Place}
 use Rattle.pl_layouts.specs.Placement.{nowhere, same_place}
 use Rattle.pl_journal.specs.declared.entry.Entry.{Entry}
@@ -24,6 +25,10 @@ placings entries = filter_map placing_in entries
 
 abbrev pub registrations : List Entry → List (Pmac × ℕ)
 registrations entries = filter_map registration_in entries
+
+-- the last one of an address
+abbrev pub last_registration : List Entry → Pmac → Option (Pmac × ℕ)
+last_registration entries x = find (λ r. same_pmac r.0 x) (reverse (registrations entries))
 
 -- the switches that know another place than before, in label order from number n on, and what they know then
 abbrev pub new_places : ℕ → List SwitchView → List SwitchView → List (ℕ × Place)

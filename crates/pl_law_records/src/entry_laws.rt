@@ -1,8 +1,9 @@
-ghost use Rattle.std.specs.Prelude.{◌≡◌, ◌++◌, ℕ, List, Some, map, length, reverse, slice_get};
+ghost use Rattle.std.specs.Prelude.{◌≡◌, ℕ, List, Some, map, length, reverse, slice_get};
 ghost use Rattle.std.specs.List.{range_with_len};
 ghost use Rattle.pl_wiring.specs.Plan.{Plan};
-ghost use Rattle.pl_node.specs.ManagerDuties.{with_number};
-ghost use Rattle.pl_node.specs.ManagerViews.{registry};
+ghost use Rattle.pl_pmac.specs.declared.pmac.Pmac.{Pmac};
+ghost use Rattle.pl_node.specs.ManagerDuties.{AreNumbered, with_number};
+ghost use Rattle.pl_node.specs.ManagerViews.{Registration, registration};
 ghost use Rattle.pl_node.specs.SwitchViews.{SwitchView};
 ghost use Rattle.pl_world.specs.declared.event.Event.{Event};
 ghost use Rattle.pl_world.specs.declared.limits.Limits.{Limits};
@@ -11,7 +12,7 @@ ghost use Rattle.pl_world.specs.Drops.{written};
 ghost use Rattle.pl_world.specs.Runs.{Moment, WorldRun};
 ghost use Rattle.pl_world.specs.WorldRule.{WorldStep};
 ghost use Rattle.pl_world.specs.Worlds.{WorldView};
-ghost use Rattle.pl_law_records.specs.Entries.{new_places, place_written, placings, registrations};
+ghost use Rattle.pl_law_records.specs.Entries.{last_registration, new_places, place_written, placings, registrations};
 
 use pl_node::{HostLogic, ManagerLogic, SwitchLogic};
 
@@ -22,14 +23,15 @@ pub fn places_are_written_where_they_change<S: SwitchLogic, M: ManagerLogic, H: 
         placings (written old new) ≡ new_places 0 old.switches new.switches }
 {}
 
-/// Those that it writes of registrations are what the manager registers in it, with its numbers.
+/// Those that it writes of registrations are the addresses that the manager numbers in it: none was
+/// registered before, each is then, and has the next number; no other one is registered then that was not.
 pub fn registrations_are_written_where_they_are_made<
     S: SwitchLogic,
     M: ManagerLogic,
     H: HostLogic,
 >()
     ensures { (old : WorldView) (event : Event) (new : WorldView) → WorldStep S.rule M.rule H.rule old event new →
-        map with_number (registry new.manager.learnt) ≡ registrations (written old new) ++ map with_number (registry old.manager.learnt) }
+        AreNumbered old.manager.learnt new.manager.learnt (registrations (written old new)) }
 {}
 
 /// So at each moment of each run from the beginning the place that a switch knows is what was written last
@@ -44,16 +46,19 @@ pub fn places_are_what_was_written_last_in_every_run<
         (s : ℕ) (v : SwitchView) → slice_get new.switches s ≡ Some v → place_written (reverse new.journal) s ≡ v.place }
 {}
 
-/// And the registrations of the journal are those of the manager, the oldest first; their numbers are 1, 2,
-/// 3 and so on.
+/// And a registered address has the number that the journal gave it last; the manager counts the numbers
+/// of the journal, which are 1, 2, 3 and so on.
 pub fn addresses_are_registered_in_order_in_every_run<
     S: SwitchLogic,
     M: ManagerLogic,
     H: HostLogic,
 >()
-    ensures same { (plan : Plan) (limits : Limits) (moments : List Moment) (new : WorldView) →
+    ensures last { (plan : Plan) (limits : Limits) (moments : List Moment) (new : WorldView) →
         WorldRun S.rule M.rule H.rule (booted plan limits) moments new →
-        reverse (registrations new.journal) ≡ map with_number (registry new.manager.learnt) }
+        (x : Pmac) (r : Registration) → registration new.manager.learnt x ≡ Some r → last_registration new.journal x ≡ Some (with_number r) }
+    ensures count { (plan : Plan) (limits : Limits) (moments : List Moment) (new : WorldView) →
+        WorldRun S.rule M.rule H.rule (booted plan limits) moments new →
+        new.manager.learnt.count ≡ length (registrations new.journal) }
     ensures numbers { (plan : Plan) (limits : Limits) (moments : List Moment) (new : WorldView) →
         WorldRun S.rule M.rule H.rule (booted plan limits) moments new →
         map (λ r. r.1) (registrations new.journal) ≡ range_with_len 1 (length (registrations new.journal)) }

@@ -1,5 +1,5 @@
 -- The head of a queue out of a port is delivered: to a switch, or to the host that stands there, which answers a probe.
-use Rattle.std.proofs.Common.{◌≡◌, ◌⊎◌, ◌<◌, ℕ, true, false, set, Contains, List, [], ◌∷◌, ◌++◌, length, length-set, Option, Some, None, slice_get, refl, sym, ap, subst, ◌∙◌, inl, inr, get_or-set_same, get_or-set_other}
+use Rattle.std.proofs.Common.{◌≡◌, ◌⊎◌, ◌<◌, ℕ, true, false, get_or, set, Contains, List, [], ◌∷◌, length, length-set, Option, Some, None, slice_get, refl, sym, ap, subst, ◌∙◌, inl, inr, get_or-set_same, get_or-set_other}
 use Rattle.std.specs.List.{AllByRecursion, list_any}
 use Rattle.std.proofs.lemmas.Bool.{cases_Bool, cases_eq, false≢true}
 use Rattle.std.proofs.lemmas.List.Elements.{Contains-append_left, Contains-push}
@@ -22,9 +22,9 @@ use Rattle.pl_node.specs.HostViews.{HostView}
 use Rattle.pl_node.specs.SwitchInputs.SwitchInput.{Comes}
 use Rattle.pl_node.specs.SwitchViews.{SwitchView}
 use Rattle.pl_host_rule.specs.HostRule.{host_rule}
-use Rattle.pl_journal.specs.declared.cause.Cause.TheVariants.{HostGone, NoMember}
+use Rattle.pl_journal.specs.declared.cause.Cause.TheVariants.{HostGone}
 use Rattle.pl_journal.specs.declared.entry.Entry.{Entry}
-use Rattle.pl_journal.specs.declared.entry.Entry.TheVariants.{Arrived, Crossed, Dropped}
+use Rattle.pl_journal.specs.declared.entry.Entry.TheVariants.{Crossed, Dropped}
 use Rattle.pl_queues.specs.Queues.{items_at}
 use Rattle.pl_switch_rule.specs.Forwarding.{Choice}
 use Rattle.pl_switch_rule.specs.SwitchRule.{Loose, switch_step}
@@ -34,76 +34,55 @@ use Rattle.pl_world.specs.declared.item.Item.TheVariants.{Control, Data}
 use Rattle.pl_world.specs.declared.spoken_frame.SpokenFrame.TheVariants.{Silent, Waiting}
 use Rattle.pl_world.specs.declared.attachment.AttachmentPoint.{AttachmentPoint}
 use Rattle.pl_world.specs.Booting.{me_of}
-use Rattle.pl_world.specs.Changes.{host_no, noted, out_of, receiver, switch_no}
+use Rattle.pl_world.specs.Changes.{noted, out_of, receiver, switch_no}
 use Rattle.pl_world.specs.Flying.{IsItem}
 use Rattle.pl_world.specs.OtherActs.{reception_noted}
 use Rattle.pl_world.specs.WorldRule.{ComesAtHost, ComesAtSwitch, ComesOut, ComesOver, HostTurn}
 use Rattle.pl_world.specs.Worlds.{WorldView}
 use Rattle.pl_law_addresses.proofs.Exports.{any_rest}
 use Rattle.pl_world.proofs.Exports.{by_host}
-use Rattle.pl_law_registration.specs.BeingRegistered.{AreAttachedApart}
-use Rattle.pl_law_registration.specs.Stays.{Stay, stay_of}
+use Rattle.pl_law_registration.specs.BeingRegistered.{AreAttachedApart, heard_at}
 use Rattle.pl_law_registration.specs.Probes.{is_packet, is_probe}
-use Rattle.pl_law_registration.proofs.NumbersOfArpFrames.{IsNumber, IsPast, all_set}
-use Rattle.pl_law_registration.proofs.Acts.{IsOtherEntry, IsSpoken, crossing_quiet, noted_quiet, stay_then}
 use Rattle.pl_law_registration.proofs.Facts.{Facts}
-use Rattle.pl_law_registration.proofs.Hosts.{answers, asked, host_follows, host_all_noticed}
+use Rattle.pl_law_registration.proofs.Hosts.{answers, asked, host_follows}
 use Rattle.pl_law_registration.proofs.Places.{Attends, it_receives, place_of, single_of, six_of, edge_port_of}
 use Rattle.pl_law_registration.proofs.RowsAttendHosts.{KnowsOrProbes, comes_still}
-use Rattle.pl_law_registration.proofs.Sending.{Keeps, any_edge_port, kept_places, turn_keeps}
+use Rattle.pl_law_registration.proofs.Sending.{Keeps, kept_places}
 use Rattle.pl_law_registration.proofs.Sources.{KnowsAt}
-use Rattle.pl_law_registration.proofs.Noticing.{AreAllNoticed, AllNoticed}
-use Rattle.pl_law_registration.proofs.TurnsOfAKnownHost.{IsPlace, NoticedIn, EdgePort, Waits, has_reached_in, noticed_on, queue_to, turn_all_noticed}
+use Rattle.pl_law_registration.proofs.TurnsOfAKnownHost.{EdgePort, Follows, IsPlace, NoticedIn, Waits, noticed_on, queue_to, turn_keeps}
 
 -- one thing that waits may take the place of another
-pub record Goes (at : EdgePort) (w new : WorldView) : Type 0 where
-  pub switches : new.switches ≡ w.switches
-  pub reached : has_reached_in at new ≡ true → has_reached_in at w ≡ true
-  pub waits : Waits at (queue_to at w) (items_at w.from_hosts at.h) → Waits at (queue_to at new) (items_at new.from_hosts at.h)
+record Goes (at : EdgePort) (w new : WorldView) : Type 0 where
+  switches : new.switches ≡ w.switches
+  heard : heard_at new at.h ≡ heard_at w at.h
+  waits : Waits at (queue_to at w) (items_at w.from_hosts at.h) → Waits at (queue_to at new) (items_at new.from_hosts at.h)
 
-pub noticed_by : (at : EdgePort) (w new : WorldView) → Goes at w new → NoticedIn at w → NoticedIn at new
-noticed_by at w new goes noticed = λ v found reached.
-    elim (noticed v (ap (λ (vs : List SwitchView). slice_get vs at.edge) (sym goes.switches) ∙ found) (goes.reached reached)) [ inl knows ↦ inl knows | inr waits ↦ inr (waits.0, goes.waits waits.1) ]
+noticed_by : (at : EdgePort) (w new : WorldView) → Goes at w new → NoticedIn at w → NoticedIn at new
+noticed_by at w new goes noticed = λ v found ticks heard.
+    elim (noticed v (ap (λ (vs : List SwitchView). slice_get vs at.edge) (sym goes.switches) ∙ found) ticks (sym goes.heard ∙ heard)) [ inl knows ↦ inl knows | inr waits ↦ inr (waits.0, goes.waits waits.1) ]
 
--- an entry that says nothing of the host
-pub noted_all_noticed : (h : ℕ) (w : WorldView) (e : Entry) → IsOtherEntry h e → AreAllNoticed h w → AreAllNoticed h (noted w e)
-noted_all_noticed h w e quiet t = subst (λ (s : Stay). AllNoticed h s w.begun w.out w.from_hosts) (sym (noted_quiet h w.journal (e ∷ []) (quiet, tt))) t
-
-pub reached_noted : (at : EdgePort) (w : WorldView) (e : Entry) → IsOtherEntry at.h e → has_reached_in at (noted w e) ≡ has_reached_in at w
-reached_noted at w e quiet = ap (λ (s : Stay). s.reached) (noted_quiet at.h w.journal (e ∷ []) (quiet, tt))
-
-reception_all_noticed : (h : ℕ) (w : WorldView) (g id : ℕ) (frame : List ℕ) (what : Reception) → AreAllNoticed h w → AreAllNoticed h (reception_noted w g id frame what)
-reception_all_noticed h w g id frame Kept t = noted_all_noticed h w (Arrived id (host_no g) frame) (λ x. refl) t
-reception_all_noticed h w g id frame NotMember t = noted_all_noticed h w (Dropped id NoMember) (λ x. refl) t
+-- an entry is written
+pub noted_follows : (at : EdgePort) (w : WorldView) (e : Entry) → Follows at w (noted w e)
+noted_follows at w e = record { switches = refl; heard = refl; out = λ x. x; mine = λ x. x }
 
 -- a reception changes nothing else
-record IsNoted (at : EdgePort) (w u : WorldView) : Type 0 where
+record IsNoted (w u : WorldView) : Type 0 where
   plan : u.plan ≡ w.plan
   attachments : u.attachments ≡ w.attachments
   switches : u.switches ≡ w.switches
   out : u.out ≡ w.out
   hosts : u.hosts ≡ w.hosts
   from_hosts : u.from_hosts ≡ w.from_hosts
-  reached : has_reached_in at u ≡ has_reached_in at w
+  heard : u.heard ≡ w.heard
 
-reception_is : (at : EdgePort) (w : WorldView) (g id : ℕ) (frame : List ℕ) (what : Reception) → IsNoted at w (reception_noted w g id frame what)
-reception_is at w g id frame Kept =
-    record { plan = refl; attachments = refl; switches = refl; out = refl; hosts = refl; from_hosts = refl; reached = reached_noted at w (Arrived id (host_no g) frame) (λ x. refl) }
-reception_is at w g id frame NotMember =
-    record { plan = refl; attachments = refl; switches = refl; out = refl; hosts = refl; from_hosts = refl; reached = reached_noted at w (Dropped id NoMember) (λ x. refl) }
+reception_is : (w : WorldView) (g id : ℕ) (frame : List ℕ) (what : Reception) → IsNoted w (reception_noted w g id frame what)
+reception_is w g id frame Kept = record { plan = refl; attachments = refl; switches = refl; out = refl; hosts = refl; from_hosts = refl; heard = refl }
+reception_is w g id frame NotMember = record { plan = refl; attachments = refl; switches = refl; out = refl; hosts = refl; from_hosts = refl; heard = refl }
 
 module _ (h : ℕ) (w : WorldView) (f : Facts w) (apart : AreAttachedApart w.attachments) (a : Attends h w) (s port : ℕ) (item : Item) (rest : List Item) (head : out_of w s port ≡ item ∷ rest)
     (within : port < w.plan.k) where
   abbrev pub popped : WorldView
   popped = record w { out = set w.out (port_index w.plan.k s port) rest }
-
-  pub popped_all_noticed : AreAllNoticed h popped
-  popped_all_noticed = record {
-    numbers = a.all_noticed.numbers;
-    past = all_set (IsPast (stay_of w.journal h) w.begun) w.out (port_index w.plan.k s port) rest a.all_noticed.past
-        (subst (λ (xs : List Item). AllByRecursion (IsPast (stay_of w.journal h) w.begun) xs) head (a.all_noticed.past (port_index w.plan.k s port))).1;
-    soon = a.all_noticed.soon;
-  }
 
   is_item : IsItem item
   is_item = (subst (λ (xs : List Item). AllByRecursion IsItem xs) head (all_or (AllByRecursion IsItem) w.out (port_index w.plan.k s port) [] f.port_items tt)).0
@@ -139,7 +118,7 @@ module _ (h : ℕ) (w : WorldView) (f : Facts w) (apart : AreAttachedApart w.att
   noticed_popped host attachment at_host at_attachment never =
       noticed_on (edge_port_of h host attachment) w popped (record {
         switches = refl;
-        reached = λ is. is;
+        heard = refl;
         out = λ waits. elim (queue_popped host attachment at_host at_attachment waits) [ inl still ↦ still | inr is ↦ absurd (never is) ];
         mine = λ is. is;
       }) (a.noticed host attachment at_host at_attachment)
@@ -158,42 +137,34 @@ module _ (h : ℕ) (w : WorldView) (f : Facts w) (apart : AreAttachedApart w.att
 
     -- what comes over a link is taken for no host's
     still_known : (id : ℕ) (frame : List ℕ) → (is_control frame ≡ false → item ≡ Data id frame) → (host : Host) (attachment : AttachmentPoint) → slice_get w.attachments h ≡ Some attachment → (v : SwitchView) → attachment.edge.0 ≡ t.0 →
-        slice_get w.switches attachment.edge.0 ≡ Some v → (choose : Choice) → KnowsAt (me_of host) v attachment.port →
-        KnowsOrProbes (me_of host) attachment.port (switch_step choose v (Comes q frame))
-    still_known id frame is host attachment at_attachment v same found choose knows =
+        slice_get w.switches attachment.edge.0 ≡ Some v → (choose : Choice) → (ticks : ℕ) → KnowsAt (me_of host) ticks v attachment.port →
+        KnowsOrProbes (me_of host) attachment.port ticks (switch_step choose v (Comes q frame))
+    still_known id frame is host attachment at_attachment v same found choose ticks knows =
         let edge = f.at_edges h attachment at_attachment in
         let home = f.homes attachment.edge.0 attachment.port v edge.edge edge.port edge.free found in
         inl (comes_still (me_of host) attachment.port v home.ready choose q frame (λ no_control takes.
         absurd (false≢true (sym (f.neighbours s port t q id frame v leads
         (subst (λ (xs : List Item). Contains xs (Data id frame)) (sym head) (subst (λ (i : Item). Contains (item ∷ rest) i) (is no_control) (Contains-append_left (item ∷ []) rest item (Contains-push [] item))))
-        (ap (λ n. slice_get w.switches n) (sym same) ∙ found)) ∙ takes))) knows)
+        (ap (λ n. slice_get w.switches n) (sym same) ∙ found)) ∙ takes))) ticks knows)
 
   over : (t : SwitchNo) (q : ℕ) (new : WorldView) → peer_of w.plan s port ≡ Switch t q → (i : Item) → item ≡ i → ComesAtSwitch Loose popped t.0 q i new → Keeps h w new
   over t q new leads (Control frame) is turn = record {
-    rest = kept_places h w popped t.0 (Comes q frame) Silent new turn popped_all_noticed tt refl refl;
-    all_noticed = turn_all_noticed (any_edge_port h) popped t.0 (Comes q frame) Silent new turn popped_all_noticed tt;
+    rest = kept_places w popped t.0 (Comes q frame) Silent new turn refl refl;
     noticed = λ host attachment at_host at_attachment.
-        turn_keeps (edge_port_of h host attachment) popped t.0 (Comes q frame) Silent new turn popped_all_noticed tt (place_popped host attachment at_host at_attachment)
+        turn_keeps (edge_port_of h host attachment) popped t.0 (Comes q frame) Silent new turn (place_popped host attachment at_host at_attachment)
         (noticed_popped host attachment at_host at_attachment (not_here t q leads host attachment at_attachment))
-        (λ v same found choose knows. still_known t q leads 0 frame (λ no_control. absurd (false≢true (sym no_control ∙ (subst IsItem is is_item).kind))) host attachment at_attachment v same found choose knows);
+        (λ v same found choose ticks knows. still_known t q leads 0 frame (λ no_control. absurd (false≢true (sym no_control ∙ (subst IsItem is is_item).kind))) host attachment at_attachment v same found choose ticks knows);
   }
   over t q new leads (Data id frame) is turn =
-      let number : IsNumber (stay_of w.journal h) w.begun id =
-      (subst (λ (xs : List Item). AllByRecursion (IsPast (stay_of w.journal h) w.begun) xs) (head ∙ ap (λ (i : Item). i ∷ rest) is) (a.all_noticed.past (port_index w.plan.k s port))).0 in
-      let same_stay : stay_of (w.journal ++ Crossed id (switch_no t.0) ∷ []) h ≡ stay_of w.journal h =
-      stay_then h w.journal (Crossed id (switch_no t.0) ∷ []) ∙ crossing_quiet h (stay_of w.journal h) w.begun id t.0 number in
       let mid : WorldView = noted popped (Crossed id (switch_no t.0)) in
-      let mid_all_noticed : AreAllNoticed h mid = subst (λ (x : Stay). AllNoticed h x w.begun popped.out w.from_hosts) (sym same_stay) popped_all_noticed in
-      let spoken : IsSpoken h (stay_of mid.journal h) w.begun (Waiting id false) = subst (λ (x : Stay). IsNumber x w.begun id) (sym same_stay) number in
       record {
-        rest = kept_places h w mid t.0 (Comes q frame) (Waiting id false) new turn mid_all_noticed spoken refl refl;
-        all_noticed = turn_all_noticed (any_edge_port h) mid t.0 (Comes q frame) (Waiting id false) new turn mid_all_noticed spoken;
+        rest = kept_places w mid t.0 (Comes q frame) (Waiting id false) new turn refl refl;
         noticed = λ host attachment at_host at_attachment.
             let p = place_popped host attachment at_host at_attachment in
-            turn_keeps (edge_port_of h host attachment) mid t.0 (Comes q frame) (Waiting id false) new turn mid_all_noticed spoken (record { free = p.free; within = p.within; six = p.six; small = p.small })
-            (noticed_on (edge_port_of h host attachment) popped mid (record { switches = refl; reached = λ now. sym (ap (λ (x : Stay). x.reached) same_stay) ∙ now; out = λ x. x; mine = λ x. x })
+            turn_keeps (edge_port_of h host attachment) mid t.0 (Comes q frame) (Waiting id false) new turn (record { free = p.free; within = p.within; six = p.six; small = p.small })
+            (noticed_on (edge_port_of h host attachment) popped mid (noted_follows (edge_port_of h host attachment) popped (Crossed id (switch_no t.0)))
             (noticed_popped host attachment at_host at_attachment (not_here t q leads host attachment at_attachment)))
-            (λ v same found choose knows. still_known t q leads id frame (λ no_control. is) host attachment at_attachment v same found choose knows);
+            (λ v same found choose ticks knows. still_known t q leads id frame (λ no_control. is) host attachment at_attachment v same found choose ticks knows);
       }
 
   -- ---- to the host that stands there
@@ -213,10 +184,10 @@ module _ (h : ℕ) (w : WorldView) (f : Facts w) (apart : AreAttachedApart w.att
         by : HostTurn rule (reception_noted popped h id frame what) h (Receives frame) answer new → list_any is_packet (items_at new.from_hosts h) ≡ true
         by turned =
             let u = reception_noted popped h id frame what in
-            let noted_is = reception_is (any_edge_port h) popped h id frame what in
+            let noted_is = reception_is popped h id frame what in
             let found : slice_get w.hosts h ≡ Some turned.before = ap (λ (hs : List HostView). slice_get hs h) (sym noted_is.hosts) ∙ turned.found in
             let within_hosts : h < length w.from_hosts = subst (λ n. h < n) (sym f.many_from) (slice_get_within w.hosts h turned.before found) in
-            answers (edge_port_of h host attachment) rule lawful u frame answer new turned (reception_all_noticed h popped h id frame what popped_all_noticed)
+            answers (edge_port_of h host attachment) rule lawful u frame answer new turned
             (six_of w.plan f.plan h host at_host) (single_of w.plan f.plan h host at_host) (f.own h host turned.before at_host found).is
             (asked (me_of host) id frame (subst (λ (i : Item). is_probe (me_of host) i ≡ true) is probe))
             (subst (λ (xs : List (List Item)). h < length xs) (sym noted_is.from_hosts) within_hosts)
@@ -226,13 +197,12 @@ module _ (h : ℕ) (w : WorldView) (f : Facts w) (apart : AreAttachedApart w.att
         (turn : HostTurn rule (reception_noted popped g id frame what) g (Receives frame) answer new) where
       received : Keeps h w new
       received = record {
-        rest = let n = reception_is (any_edge_port h) popped g id frame what in same_places g (reception_noted popped g id frame what) (Receives frame) answer new turn n.plan n.attachments;
-        all_noticed = host_all_noticed (any_edge_port h) rule (reception_noted popped g id frame what) g (Receives frame) answer new turn (reception_all_noticed h popped g id frame what popped_all_noticed);
+        rest = let n = reception_is popped g id frame what in same_places g (reception_noted popped g id frame what) (Receives frame) answer new turn n.plan n.attachments;
         noticed = λ host attachment at_host at_attachment.
             let at = edge_port_of h host attachment in
             let u = reception_noted popped g id frame what in
-            let n = reception_is at popped g id frame what in
-            let follows = host_follows at rule u g (Receives frame) answer new turn (reception_all_noticed h popped g id frame what popped_all_noticed) in
+            let n = reception_is popped g id frame what in
+            let follows = host_follows at rule u g (Receives frame) answer new turn in
             let probed : IsAsked host attachment → list_any is_packet (items_at new.from_hosts h) ≡ true = (λ asks.
             let goes_to = (asked (me_of host) id frame (subst (λ (i : Item). is_probe (me_of host) i ≡ true) is asks.probe)).to in
             let mine : receiver w s port frame ≡ Some h =
@@ -245,7 +215,7 @@ module _ (h : ℕ) (w : WorldView) (f : Facts w) (apart : AreAttachedApart w.att
             follows.mine (ap (λ (xs : List (List Item)). list_any is_packet (items_at xs h)) n.from_hosts ∙ packet)) in
             noticed_by at w new (record {
               switches = follows.switches ∙ n.switches;
-              reached = λ now. sym n.reached ∙ follows.reached now;
+              heard = follows.heard ∙ ap (λ (xs : List (Option ℕ)). get_or xs h None) n.heard;
               waits = λ waits. elim waits [
                 | inr packet ↦ inr (packet_still packet)
                 | inl probe ↦ elim (queue_popped host attachment at_host at_attachment probe) [
@@ -261,10 +231,9 @@ module _ (h : ℕ) (w : WorldView) (f : Facts w) (apart : AreAttachedApart w.att
     lost_there id frame is nobody new same =
         subst (λ (x : WorldView). Keeps h w x) (sym same) (record {
           rest = (refl, refl);
-          all_noticed = noted_all_noticed h popped (Dropped id HostGone) (λ x. refl) popped_all_noticed;
           noticed = λ host attachment at_host at_attachment.
               noticed_on (edge_port_of h host attachment) popped (noted popped (Dropped id HostGone))
-              (record { switches = refl; reached = λ now. sym (reached_noted (edge_port_of h host attachment) popped (Dropped id HostGone) (λ x. refl)) ∙ now; out = λ x. x; mine = λ x. x })
+              (noted_follows (edge_port_of h host attachment) popped (Dropped id HostGone))
               (noticed_popped host attachment at_host at_attachment (λ asks.
               let goes_to = (asked (me_of host) id frame (subst (λ (i : Item). is_probe (me_of host) i ≡ true) is asks.probe)).to in
               none-some h (sym nobody ∙ (λ i. receiver w (sym asks.edge i) (sym asks.at_port i) frame) ∙ it_receives w apart h host attachment at_host at_attachment frame goes_to)));
@@ -278,7 +247,6 @@ module _ (h : ℕ) (w : WorldView) (f : Facts w) (apart : AreAttachedApart w.att
     out_there (Control frame) is new same =
         subst (λ (x : WorldView). Keeps h w x) (sym same) (record {
           rest = (refl, refl);
-          all_noticed = popped_all_noticed;
           noticed = λ host attachment at_host at_attachment.
               noticed_popped host attachment at_host at_attachment (λ asks. false≢true (subst (λ (i : Item). is_probe (me_of host) i ≡ true) is asks.probe));
         })

@@ -27,6 +27,8 @@ use Rattle.pl_law_addresses.specs.Addressed.{KnowNeighbours}
 use Rattle.pl_law_addresses.specs.OwnFrames.{HostsAreOwn}
 use Rattle.pl_law_invariant.specs.ControlInvariant.{ControlInvariant}
 use Rattle.pl_law_invariant.proofs.Exports.{grounded}
+use Rattle.pl_switch_rule.specs.Granting.{freed_at, grants_at}
+use Rattle.pl_law_registration.proofs.FirstUses.{free_given}
 use Rattle.pl_law_registration.proofs.RowsAttendHosts.{IsReady}
 use Rattle.pl_law_registration.proofs.Sources.{IsLow}
 use Rattle.pl_journal.specs.Flights.{label_level}
@@ -85,7 +87,7 @@ facts_of w kept =
           record {
             ready = record {
               low = low;
-              has = record { grants = subst (λ n. port < n) (sym (shaped.grants ∙ size)) within; remembered = subst (λ n. port < n) (sym (shaped.remembered ∙ size)) within };
+              has = record { grants = subst (λ n. port < n) (sym (shaped.grants ∙ size)) within; remembered = subst (λ n. port < n) (sym (shaped.remembered ∙ size)) within; free = free_given (grants_at v port) (freed_at v port) ((kept.addresses.addressed.address_tables s v found).free port) };
               within = subst (λ n. port < n) (sym size) within;
             };
             takes = takes_hosts (port_of v port) (ap (λ (u : SwitchView). (port_of u port).heard) (sym here) ∙ kept.placed.strangers s port free);

@@ -21,8 +21,7 @@ use Rattle.pl_layouts.specs.Frames.{arriving, packet_in, with_addresses}
 use Rattle.pl_layouts.proofs.Exports.{destination_of-arriving, long_frame, packet_in-arriving}
 use Rattle.pl_switch_rule.specs.Messages.{probe_frame}
 use Rattle.pl_world.specs.declared.item.Item.TheVariants.{Data}
-use Rattle.pl_law_registration.specs.Stays.{is_readable}
-use Rattle.pl_law_registration.specs.Probes.{asks_for, is_probe}
+use Rattle.pl_law_registration.specs.Probes.{asks_for, is_probe, is_readable}
 
 -- a frame by its fields
 abbrev packet_by : ℕ → List ℕ → Option Arp

@@ -1,5 +1,5 @@
 -- Which hosts a switch grants addresses to: the sources of the frames that come, and those that it remembers.
-use Rattle.std.proofs.Common.{◌≡◌, ◌||◌, ℕ, zero, suc, Bool, true, false, if◌then◌else◌, get_or, set, List, [], ◌∷◌, Option, Some, None, Result, Ok, Err, refl, sym, ap, subst}
+use Rattle.std.proofs.Common.{◌≡◌, ◌||◌, ℕ, nat_lt, zero, suc, Bool, true, false, if◌then◌else◌, get_or, set, List, [], ◌∷◌, Option, Some, None, Result, Ok, Err, refl, sym, ap, subst}
 use Rattle.std.specs.List.{AllByRecursion}
 use Rattle.std.proofs.lemmas.Bool.{cond_both}
 use Rattle.pl_lemmas.proofs.Exports.{all_append}
@@ -13,28 +13,34 @@ use Rattle.pl_layouts.specs.declared.control.ControlError.{ControlError}
 use Rattle.pl_layouts.specs.declared.place.Place.{Place}
 use Rattle.pl_layouts.specs.Control.{control_in, is_control}
 use Rattle.pl_layouts.specs.Placement.{is_known, is_placed}
+use Rattle.pl_node.specs.AddressUses.{standing_trap}
 use Rattle.pl_node.specs.declared.acts.Act.{Act}
 use Rattle.pl_node.specs.declared.acts.Act.TheVariants as act
+use Rattle.pl_node.specs.declared.address_use.AddressUse.{AddressUse}
+use Rattle.pl_node.specs.declared.address_use.AddressUse.TheVariants.{Free, InUse, Resting, Trapped}
 use Rattle.pl_node.specs.declared.messages.ToManager.TheVariants as tell
 use Rattle.pl_node.specs.declared.messages.ToSwitch.{ToSwitch}
 use Rattle.pl_node.specs.declared.messages.ToSwitch.TheVariants as say
 use Rattle.pl_node.specs.declared.switch_records.Grant.{Grant}
 use Rattle.pl_node.specs.declared.switch_records.Source.{Source}
+use Rattle.pl_node.specs.declared.trap.Trap.{Trap}
 use Rattle.pl_node.specs.PortRecords.{is_open_to_hosts, port_of, ports_of_switch, with_port}
 use Rattle.pl_node.specs.SwitchInputs.SwitchInput.{Comes, Says, Tick}
 use Rattle.pl_node.specs.SwitchViews.{SwitchView}
 use Rattle.pl_journal.specs.declared.cause.Cause.TheVariants as cause
 use Rattle.pl_steps.specs.Steps.{SwitchStep, does, rests, ◌▹◌}
+use Rattle.pl_switch_rule.specs.Aging.{ages, ages_out, ages_out_of, all_age_out, probes_idle, to_rest, with_older}
+use Rattle.pl_switch_rule.specs.Announcing.{tells_neighbours}
 use Rattle.pl_switch_rule.specs.Delivering.{makes}
 use Rattle.pl_switch_rule.specs.Forwarding.{Choice}
-use Rattle.pl_switch_rule.specs.Granting.{address_at_port, forgets, grant_number, granted, grants_at, grants_next, grants_or_learns, grants_remembered, grants_source, in_use, is_granted, is_port_spent, learns_ip, learns_source, or_else, remembered_at, remembered_ip, remembers, sender_ip, with_grant}
+use Rattle.pl_switch_rule.specs.Granting.{address_at_port, forgets, freed_at, grant_number, granted, grants_at, grants_next, grants_or_learns, grants_remembered, grants_source, held_here, in_use, is_granted, learns_ip, learns_source, next_vmid, or_else, remembered_at, remembered_ip, remembers, sender_ip, uses}
 use Rattle.pl_switch_rule.specs.Intake.{comes_from_host, takes_in_or_spent}
 use Rattle.pl_switch_rule.specs.Levels.{after_message, becomes_edge, changes_to, finds_host, has_become_placed, settles_in, with_pod}
-use Rattle.pl_switch_rule.specs.Messages.{answer_frame, flood_frame, floods, forgets_members, invalidates, probes, sets_trap, takes_pod}
+use Rattle.pl_switch_rule.specs.Messages.{answer_frame, flood_frame, floods, forgets_members, frees, frees_at, invalidates, probes, sets_trap, sets_trap_over, takes_pod, with_trap}
 use Rattle.pl_switch_rule.specs.Positions.{after_vote}
 use Rattle.pl_switch_rule.specs.SwitchRule.{comes_from_switch, control_comes, data_comes, hears_control, switch_step}
 use Rattle.pl_switch_rule.specs.Telling.{changes_told}
-use Rattle.pl_law_addresses.proofs.Exports.{AreSilent, aside_does, aside_then, changes_silent, edge_placing, floods_aside, forgets_members_aside, IsPlacing, LeavesAddresses, makes_aside, message_placing, pod_placing, probes_aside, proposal_aside, switch_frame_aside, takes_in_aside, ticks_aside, vote_placing}
+use Rattle.pl_law_addresses.proofs.Exports.{AreSilent, aside_does, aside_then, changes_silent, edge_placing, floods_aside, forgets_members_aside, IsPlacing, LeavesAddresses, makes_aside, message_placing, pod_placing, probes_are_aside, probes_aside, proposal_aside, switch_frame_aside, takes_in_aside, tells_aside, vote_placing}
 use Rattle.pl_layouts.specs.Equality.{is_ip}
 
 -- what is found where something may have been put
@@ -89,15 +95,18 @@ module _ (P : ℕ → Mac → Type 0) where
   -- ---- a source
   fits_ip : (v : SwitchView) (x : Pmac) (o : Option Grant) (ip : Option Ip4) → Fits v (learns_ip v x o ip)
   fits_ip v x None ip = fits_rests v
-  fits_ip v x (Some g) None = fits_rests v
+  fits_ip v x (Some g) None = record { holds = λ r. r; grants = λ r. tt }
   fits_ip v x (Some g) (Some ip) =
-      fits_either v (is_ip g.ip ip) (rests v) (record { view = with_grant v x (record g { ip = Some ip }); acts = act.Tell (tell.Learned x g.amac (Some ip)) ∷ [] })
-      (λ h. fits_rests v) (λ h. record { holds = λ r. r; grants = λ r. (tt, tt) })
+      fits_either v (is_ip g.ip ip) (rests (uses v x g)) (record { view = uses v x (record g { ip = Some ip }); acts = act.Tell (tell.Learned x g.amac (Some ip)) ∷ [] })
+      (λ h. record { holds = λ r. r; grants = λ r. tt }) (λ h. record { holds = λ r. r; grants = λ r. (tt, tt) })
+
+  fits_next : (v : SwitchView) (port : ℕ) (mac : Mac) (ip : Option Ip4) (o : Option ℕ) → P port mac → Fits v (grants_next v port mac ip o)
+  fits_next v port mac ip None is = fits_rests v
+  fits_next v port mac ip (Some vmid) is = record { holds = λ r. r; grants = λ r. (is, (tt, tt)) }
 
   fits_mac : (v : SwitchView) (port : ℕ) (mac : Mac) (ip : Option Ip4) (o : Option ℕ) → P port mac → Fits v (grants_or_learns v port mac ip o)
   fits_mac v port mac ip (Some vmid) is = fits_ip v (address_at_port v port vmid) (grant_number (grants_at v port) vmid) ip
-  fits_mac v port mac ip None is =
-      fits_either v (is_port_spent v port) (rests v) (grants_next v port mac ip) (λ h. fits_rests v) (λ h. record { holds = λ r. r; grants = λ r. (is, (tt, tt)) })
+  fits_mac v port mac ip None is = fits_next v port mac ip (next_vmid (freed_at v port) (grants_at v port)) is
 
   put_source : (v : SwitchView) (port : ℕ) (s : Option Source) → IsFine port s → Remembers v → Remembers (record v { remembered = set v.remembered port s })
   put_source v port s is r = λ q. found_source (IsFine q) v.remembered port q s (r q) (λ same. subst (λ (n : ℕ). IsFine n s) (sym same) is)
@@ -175,8 +184,49 @@ module _ (P : ℕ → Mac → Type 0) where
       (λ host. fits_host choose v port frame (fair other host))
       (λ h. fits_aside v (comes_from_switch choose v port frame) (switch_frame_aside choose v port frame)))
 
+  -- ---- a tick grants nothing
+  fits_out_of : (v : SwitchView) (x : Pmac) (g : Grant) (h : AddressUse) → Fits v (ages_out_of v x g h)
+  fits_out_of v x g (InUse idle) = record { holds = λ r. r; grants = λ r. (tt, tt) }
+  fits_out_of v x g (Trapped trap age) = record { holds = λ r. r; grants = λ r. (tt, tt) }
+  fits_out_of v x g (Resting number) = fits_rests v
+  fits_out_of v x g Free = fits_rests v
+
+  fits_out : (v : SwitchView) (x : Pmac) (o : Option Grant) → Fits v (ages_out x o v)
+  fits_out v x None = fits_rests v
+  fits_out v x (Some g) = fits_out_of v x g g.held
+
+  fits_all_out : (xs : List Pmac) (v : SwitchView) → Fits v (all_age_out xs v)
+  unfolding all_age_out
+  fits_all_out [] v = fits_rests v
+  fits_all_out (x ∷ xs) v =
+      let first : SwitchStep = ages_out x (granted v x) v in
+      fits_then v first (all_age_out xs) (fits_out v x (granted v x)) (fits_all_out xs first.view)
+
+  fits_ages : (v : SwitchView) → Fits v (ages v)
+  fits_ages v =
+      let w : SwitchView = with_older v in
+      let probed = fits_aside w (does w (probes_idle w)) (probes_are_aside w) in
+      fits_then v (does w (probes_idle w)) (λ u. all_age_out (to_rest u) u) (record { holds = λ r. probed.holds r; grants = λ r. probed.grants r })
+      (fits_all_out (to_rest w) w)
+
   pub fits_tick : (choose : Choice) (v : SwitchView) → Fits v (switch_step choose v Tick)
-  fits_tick choose v = fits_aside v (switch_step choose v Tick) (ticks_aside v)
+  fits_tick choose v = fits_then v (tells_neighbours v) ages (fits_aside v (tells_neighbours v) (tells_aside v)) (fits_ages (tells_neighbours v).view)
+
+  -- ---- orders
+  trap_remembered : (o : Option Trap) (v : SwitchView) (old : Pmac) (g : Grant) (trap : Trap) → (sets_trap_over o v old g trap).remembered ≡ v.remembered
+  trap_remembered None v old g trap = refl
+  trap_remembered (Some standing) v old g trap =
+      cond_both (nat_lt trap.number standing.number) v (with_trap v old g trap) (λ (w : SwitchView). w.remembered ≡ v.remembered) (λ h. refl) (λ h. refl)
+
+  fits_frees_at : (v : SwitchView) (x : Pmac) (g : Grant) (h : AddressUse) → Fits v (frees_at v x g h)
+  fits_frees_at v x g (InUse idle) = fits_rests v
+  fits_frees_at v x g (Trapped trap age) = fits_rests v
+  fits_frees_at v x g (Resting number) = record { holds = λ r. r; grants = λ r. (tt, tt) }
+  fits_frees_at v x g Free = fits_rests v
+
+  fits_frees : (v : SwitchView) (x : Pmac) (o : Option Grant) → Fits v (frees v x o)
+  fits_frees v x None = fits_rests v
+  fits_frees v x (Some g) = fits_frees_at v x g g.held
 
   pub fits_order : (choose : Choice) (v : SwitchView) (says : ToSwitch) → Fits v (switch_step choose v (Says says))
   fits_order choose v (say.Pod pod) =
@@ -190,14 +240,17 @@ module _ (P : ℕ → Mac → Type 0) where
   fits_order choose v (say.Flood asker asker_ip ip) =
       fits_either v (is_granted v asker) (floods v (flood_frame asker asker_ip ip)) (rests v)
       (λ h. fits_aside v (floods v (flood_frame asker asker_ip ip)) (floods_aside v (flood_frame asker asker_ip ip))) (λ h. fits_rests v)
-  fits_order choose v (say.Invalidate old new number ip) = by (granted v old)
+  fits_order choose v (say.Release x) = fits_frees v x (granted v x)
+  fits_order choose v (say.Invalidate old new number ip) = by (held_here v old)
     where
       by : (o : Option Grant) → Fits v (invalidates v old (record { new = new; number = number; ip = ip }) o)
       by None = fits_rests v
       by (Some g) =
-          let w = sets_trap v old g (record { new = new; number = number; ip = ip }) in
+          let trap : Trap = record { new = new; number = number; ip = ip } in
+          let w = sets_trap v old g trap in
           let a = aside_then w (does w [] ▹ forgets_members old.port g.amac) (probes old g)
-          (aside_then w (does w []) (forgets_members old.port g.amac) (record { place = refl; k = refl; grants = refl; remembered = refl; silent = tt })
+          (aside_then w (does w []) (forgets_members old.port g.amac) (aside_does w [] tt)
           (λ u. forgets_members_aside old.port g.amac u)) (λ u. probes_aside old g u) in
           let all = fits_aside w (does w [] ▹ forgets_members old.port g.amac ▹ probes old g) a in
-          record { holds = λ r. all.holds r; grants = λ r. all.grants r }
+          let same = trap_remembered (standing_trap g.held) v old g trap in
+          record { holds = λ r. all.holds (same_remembered v w same r); grants = λ r. all.grants (same_remembered v w same r) }

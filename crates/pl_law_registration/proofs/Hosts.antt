@@ -1,5 +1,5 @@
 -- A turn of a host leaves what waits, and a host answers a probe.
-use Rattle.std.proofs.Common.{◌≡◌, ◌<◌, ◌+◌, ◌%◌, ◌==◌, ◌&&◌, ◌++◌, ℕ, not, nat_le, drop, true, false, cond, if◌then◌else◌, set, List, [], ◌∷◌, fold, map, length, Option, Some, None, slice_index, refl, sym, ap, subst, ◌∙◌, inl, inr, eqb-true, get_or-set_same}
+use Rattle.std.proofs.Common.{◌≡◌, ◌<◌, ◌+◌, ◌%◌, ◌==◌, ◌&&◌, ◌++◌, ℕ, not, nat_le, drop, true, false, cond, if◌then◌else◌, get_or, set, List, [], ◌∷◌, fold, map, length, Option, Some, None, slice_index, refl, sym, ap, subst, ◌∙◌, inl, inr, eqb-true, get_or-set_same}
 use Rattle.std.specs.List.{list_any}
 use Rattle.std.proofs.lemmas.Bool.{and_from, and_parts, cases_Bool, false≢true}
 use Rattle.byteorder.specs.Endian.{big_number}
@@ -32,30 +32,41 @@ use Rattle.pl_world.specs.OtherActs.{host_act_done}
 use Rattle.pl_world.specs.WorldRule.{HostTurn}
 use Rattle.pl_world.specs.Worlds.{WorldView}
 use Rattle.pl_world.proofs.Exports.{by_host}
-use Rattle.pl_law_registration.specs.Probes.{asks_for, is_packet, is_probe}
-use Rattle.pl_law_registration.specs.Stays.{is_readable}
+use Rattle.pl_law_registration.specs.Probes.{asks_for, is_packet, is_probe, is_readable}
 use Rattle.pl_law_registration.proofs.Frames.{packet_is_readable}
-use Rattle.pl_law_registration.proofs.NumbersOfArpFrames.{any_last}
-use Rattle.pl_law_registration.proofs.Noticing.{HostSends, AreAllNoticed, host_sends, one_sent}
+use Rattle.pl_law_registration.proofs.Waiting.{Grows, any_last, grows_then, put_grows}
 use Rattle.pl_law_registration.proofs.TurnsOfAKnownHost.{Follows, EdgePort}
 
-module _ (at : EdgePort) (rule : HostRule) (w : WorldView) (g : ℕ) (input : HostInput) (answer : HostAnswer) (new : WorldView) (turn : HostTurn rule w g input answer new) (t : AreAllNoticed at.h w) where
-  sends : HostSends at.h w new
-  sends =
-      let first : WorldView = record w { hosts = set w.hosts g turn.after } in
-      let s = host_sends at.h g first turn.acts (record { numbers = t.numbers; past = t.past; soon = t.soon }) in
-      subst (λ (x : WorldView). HostSends at.h w x) (sym turn.changed) (record { all_noticed = s.all_noticed; reached = s.reached; out = s.out; mine = s.mine })
+-- ---- what a host's acts leave and bring about
+record IsSent (w new : WorldView) : Type 0 where
+  out : new.out ≡ w.out
+  heard : new.heard ≡ w.heard
+  mine : Grows w.from_hosts new.from_hosts
 
-  pub host_all_noticed : AreAllNoticed at.h new
-  host_all_noticed = sends.all_noticed
+host_sends : (g : ℕ) (w : WorldView) (acts : List HostAct) → IsSent w (fold (host_act_done g) w acts)
+host_sends g w [] = record { out = refl; heard = refl; mine = λ i p is. is }
+host_sends g w (Send frame ∷ acts) =
+    let next : WorldView = sent_by_host w g frame in
+    let rest = host_sends g next acts in
+    record {
+      out = rest.out;
+      heard = rest.heard;
+      mine = grows_then w.from_hosts next.from_hosts (fold (host_act_done g) next acts).from_hosts (put_grows w.from_hosts g (Data (w.begun + 1) frame)) rest.mine;
+    }
+
+module _ (at : EdgePort) (rule : HostRule) (w : WorldView) (g : ℕ) (input : HostInput) (answer : HostAnswer) (new : WorldView) (turn : HostTurn rule w g input answer new) where
+  sends : IsSent w new
+  sends =
+      let s = host_sends g (record w { hosts = set w.hosts g turn.after }) turn.acts in
+      subst (λ (x : WorldView). IsSent w x) (sym turn.changed) (record { out = s.out; heard = s.heard; mine = s.mine })
 
   pub host_follows : Follows at w new
   host_follows = let same = by_host rule w g input answer new turn in record {
     switches = ap (λ (x : WorldView). x.switches) same;
-    reached = λ is. sym sends.reached ∙ is;
+    heard = ap (λ (xs : List (Option ℕ)). get_or xs at.h None) sends.heard;
     out = λ is.
         ap (λ (p : Plan). list_any (is_probe at.me) (items_at new.out (port_index p.k at.edge at.port))) (ap (λ (x : WorldView). x.plan) same)
-        ∙ ap (λ (out : List (List Item)). list_any (is_probe at.me) (items_at out (port_index w.plan.k at.edge at.port))) (ap (λ (x : WorldView). x.out) same) ∙ is;
+        ∙ ap (λ (out : List (List Item)). list_any (is_probe at.me) (items_at out (port_index w.plan.k at.edge at.port))) sends.out ∙ is;
     mine = λ is. sends.mine at.h is_packet is;
   }
 
@@ -124,7 +135,7 @@ module _ (me : Me) (six : length me.mac.0 ≡ 6) (single : IsGroup me.mac → �
 
 -- a host that gets a probe then has the answer in its queue
 module _ (at : EdgePort) (rule : HostRule) (lawful : (view : HostView) (input : HostInput) (after : HostView) (acts : List HostAct) (answer : HostAnswer) → rule view input after acts answer → host_rule view input after acts answer)
-    (w : WorldView) (frame : List ℕ) (answer : HostAnswer) (new : WorldView) (turn : HostTurn rule w at.h (Receives frame) answer new) (t : AreAllNoticed at.h w)
+    (w : WorldView) (frame : List ℕ) (answer : HostAnswer) (new : WorldView) (turn : HostTurn rule w at.h (Receives frame) answer new)
     (six : length at.me.mac.0 ≡ 6) (single : IsGroup at.me.mac → ⊥) (is_me : turn.before.me ≡ at.me) (a : IsAsked at.me frame) (within : at.h < length w.from_hosts) where
   pub answers : list_any is_packet (items_at new.from_hosts at.h) ≡ true
   answers =
@@ -136,7 +147,6 @@ module _ (at : EdgePort) (rule : HostRule) (lawful : (view : HostView) (input : 
       let waits : list_any is_packet (items_at next.from_hosts at.h) ≡ true =
       ap (λ (xs : List Item). list_any is_packet xs) (get_or-set_same w.from_hosts at.h (items_at w.from_hosts at.h ++ Data (w.begun + 1) r.frame ∷ []) [] within)
       ∙ any_last is_packet (items_at w.from_hosts at.h) (Data (w.begun + 1) r.frame) r.readable in
-      let all_noticed = one_sent at.h first at.h r.frame (record { numbers = t.numbers; past = t.past; soon = t.soon }) in
-      let more = host_sends at.h at.h next r.rest all_noticed in
+      let more = host_sends at.h next r.rest in
       ap (λ (x : WorldView). list_any is_packet (items_at x.from_hosts at.h)) (turn.changed ∙ ap (λ (xs : List HostAct). fold (host_act_done at.h) first xs) acts)
       ∙ more.mine at.h is_packet waits

@@ -1,10 +1,9 @@
 -- Each step keeps what is known of each host, and so does each run from the beginning.
-use Rattle.std.proofs.Common.{set, ◌≡◌, ◌<◌, ◌+◌, ◌*◌, ℕ, zero, suc, not, List, [], ◌∷◌, replicate, length, Option, Some, None, slice_get, refl, sym, ap, subst, ◌∙◌}
-use Rattle.std.specs.List.{AllByRecursion}
-use Rattle.std.proofs.lemmas.Bool.{and_parts, false≢true}
+use Rattle.std.proofs.Common.{get_or, set, ◌≡◌, ◌<◌, ◌+◌, ℕ, zero, suc, not, List, ◌∷◌, replicate, length, Option, Some, None, slice_get, refl, sym, ap, subst, ◌∙◌}
+use Rattle.std.proofs.lemmas.Bool.{and_parts}
+use Rattle.std.proofs.lemmas.Option.{none-some}
 use Rattle.pl_wiring.specs.declared.link.Peer.TheVariants.{HostPort, Switch}
 use Rattle.pl_wiring.specs.declared.label.SwitchNo.{SwitchNo}
-use Rattle.pl_wiring.specs.Labels.{switch_count}
 use Rattle.pl_wiring.specs.Peers.{peer_of}
 use Rattle.pl_wiring.specs.Plan.{Plan}
 use Rattle.pl_node.specs.declared.acts.HostAct.{HostAct}
@@ -13,15 +12,12 @@ use Rattle.pl_node.specs.HostInputs.{HostAnswer, HostInput, HostRule}
 use Rattle.pl_node.specs.HostViews.{HostView}
 use Rattle.pl_host_rule.specs.HostRule.{host_rule}
 use Rattle.pl_journal.specs.declared.entry.Entry.{Entry}
-use Rattle.pl_journal.specs.declared.entry.Entry.TheVariants.{Crossed, Moved, Sent}
 use Rattle.pl_journal.specs.Places.{is_host_port}
 use Rattle.pl_manager_rule.specs.ManagerRule.{manager_rule}
-use Rattle.pl_queues.specs.Queues.{items_at}
 use Rattle.pl_switch_rule.specs.SwitchRule.{Loose}
 use Rattle.pl_world.specs.declared.event.Event.{Event}
 use Rattle.pl_world.specs.declared.event.Event.TheVariants as event
 use Rattle.pl_world.specs.declared.event.QueueName.TheVariants as queue
-use Rattle.pl_world.specs.declared.item.Item.{Item}
 use Rattle.pl_world.specs.declared.limits.Limits.{Limits}
 use Rattle.pl_world.specs.declared.attachment.AttachmentPoint.{AttachmentPoint}
 use Rattle.pl_world.specs.Booting.{CanBegin, booted}
@@ -35,12 +31,9 @@ use Rattle.pl_world.proofs.Exports.{event_is_not_refused, Happened, happened, pl
 use Rattle.pl_world.proofs.Exports.Happened.{Asked, Departed, Failed, FromHost, Lost, Ordered, OutOfPort, OverLink, PlayedFrame, Repaired, Reported, Ticked}
 use Rattle.pl_law_invariant.specs.ControlInvariant.{ControlInvariant}
 use Rattle.pl_law_registration.specs.BeingRegistered.{AreAttachedApart}
-use Rattle.pl_law_registration.specs.Stays.{first_stay}
-use Rattle.pl_law_registration.proofs.NumbersOfArpFrames.{IsPast, IsSoon}
-use Rattle.pl_law_registration.proofs.Acts.{IsOtherEntry}
 use Rattle.pl_law_registration.proofs.EventsKeepNotice.{fails_on, from_manager, lost_on, repaired_on, ticks_on, to_manager}
 use Rattle.pl_law_registration.proofs.Facts.{Facts, facts_of}
-use Rattle.pl_law_registration.proofs.DeliveredOutOfPorts.{over_there, reached_noted, noted_all_noticed}
+use Rattle.pl_law_registration.proofs.DeliveredOutOfPorts.{noted_follows, over_there}
 use Rattle.pl_law_registration.proofs.Moves.{goes_on, plays_on, sends_on}
 use Rattle.pl_law_registration.proofs.Places.{Attends, boots_apart, edge_port_of}
 use Rattle.pl_law_registration.proofs.RegistrationInRuns.{kept_from_beginning}
@@ -62,7 +55,6 @@ module _ (rule : HostRule) (lawful : (view : HostView) (input : HostInput) (afte
     after : (new : WorldView) → Keeps h w new → After h new
     after new k = (
       record {
-        all_noticed = k.all_noticed;
         noticed = λ host attachment at_host at_attachment.
             k.noticed host attachment (ap (λ (p : Plan). slice_get p.hosts h) (sym k.rest.0) ∙ at_host) (ap (λ (xs : List AttachmentPoint). slice_get xs h) (sym k.rest.1) ∙ at_attachment);
       },
@@ -103,46 +95,34 @@ module _ (rule : HostRule) (lawful : (view : HostView) (input : HostInput) (afte
       let w : WorldView = record old { steps = old.steps + 1 } in
       let one : (h : ℕ) → After h new = (λ h.
       let a = all.each h in
-      by_case h w (facts_of old kept) all.apart (record { all_noticed = record { numbers = a.all_noticed.numbers; past = a.all_noticed.past; soon = a.all_noticed.soon }; noticed = a.noticed }) e new
+      by_case h w (facts_of old kept) all.apart (record { noticed = a.noticed }) e new
       (same_refusal old e ∙ event_is_not_refused old e none) (happened Loose manager_rule rule w e new step)) in
       record { apart = (one 0).1; each = λ h. (one h).0 }
 
   -- ---- a mark
-  mark_quiet : (h : ℕ) (e : Entry) → IsMark e → IsOtherEntry h e
-  mark_quiet h (Moved g edge port) is = absurd is
-  mark_quiet h (Sent id g frame) is = absurd is
-  mark_quiet h (Crossed id s) is = absurd is
-  mark_quiet h e is = λ x. refl
-
   mark_attends : (w : WorldView) (e : Entry) → IsMark e → AttendsAll w → AttendsAll (noted w e)
   mark_attends w e is all = record {
     apart = all.apart;
     each = λ h. let a = all.each h in record {
-      all_noticed = noted_all_noticed h w e (mark_quiet h e is) a.all_noticed;
       noticed = λ host attachment at_host at_attachment.
           noticed_on (edge_port_of h host attachment) w (noted w e)
-          (record { switches = refl; reached = λ now. sym (reached_noted (edge_port_of h host attachment) w e (mark_quiet h e is)) ∙ now; out = λ x. x; mine = λ x. x })
+          (noted_follows (edge_port_of h host attachment) w e)
           (a.noticed host attachment at_host at_attachment);
     };
   }
 
   module _ (sends : HostsSendData rule) (owns : HostsSendOwn rule) (plan : Plan) (limits : Limits) (can : CanBegin plan) where
     -- ---- the beginning
-    nothing_at : (n i : ℕ) → items_at {T = Item} (replicate n []) i ≡ []
-    nothing_at zero i = refl
-    nothing_at (suc n) zero = refl
-    nothing_at (suc n) (suc i) = nothing_at n i
+    none_heard : (n h : ℕ) → get_or {A = Option ℕ} (replicate n None) h None ≡ None
+    none_heard zero h = refl
+    none_heard (suc n) zero = refl
+    none_heard (suc n) (suc h) = none_heard n h
 
     boots_being_registered : AttendsAll (booted plan limits)
     boots_being_registered = record {
       apart = boots_apart plan can;
       each = λ h. record {
-        all_noticed = record {
-          numbers = tt;
-          past = λ i. subst (λ (xs : List Item). AllByRecursion (IsPast first_stay 0) xs) (sym (nothing_at (switch_count plan.k * plan.k) i)) tt;
-          soon = λ g. subst (λ (xs : List Item). AllByRecursion (IsSoon first_stay 0 (g ≡ h)) xs) (sym (nothing_at (length plan.hosts) g)) tt;
-        };
-        noticed = λ host attachment at_host at_attachment v found reached. absurd (false≢true reached);
+        noticed = λ host attachment at_host at_attachment v found ticks heard. absurd (none-some ticks (sym (none_heard (length plan.hosts) h) ∙ heard));
       };
     }
 

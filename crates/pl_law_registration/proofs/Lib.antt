@@ -1,7 +1,7 @@
-pub mod NumbersOfArpFrames
+pub mod Waiting
 pub mod Acts
-pub mod Noticing
 pub mod Frames
+pub mod FirstUses
 pub mod Sources
 pub mod Settling
 pub mod RowsAttendHosts
@@ -16,7 +16,6 @@ pub mod Moves
 pub mod RegistrationInRuns
 pub mod KeepingRegistration
 pub mod Registered
-pub mod Reached
 pub mod GrantRows
 pub mod StoodActs
 pub mod StoodEvents

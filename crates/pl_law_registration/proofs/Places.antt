@@ -29,10 +29,9 @@ use Rattle.pl_world.specs.Worlds.{WorldView}
 use Rattle.pl_world.proofs.Exports.{stands_there}
 use Rattle.pl_law_addresses.proofs.Exports.{first_passes, get-set_other, none_passes}
 use Rattle.pl_law_registration.specs.BeingRegistered.{AreAttachedApart}
-use Rattle.pl_law_registration.specs.Stays.{is_readable}
+use Rattle.pl_law_registration.specs.Probes.{is_readable}
 use Rattle.pl_law_registration.proofs.Facts.{Facts}
 use Rattle.pl_law_registration.proofs.TurnsOfAKnownHost.{IsPlace, NoticedIn, EdgePort}
-use Rattle.pl_law_registration.proofs.Noticing.{AreAllNoticed}
 
 -- ---- a host of the wiring at its place
 abbrev pub edge_port_of : ℕ → Host → AttachmentPoint → EdgePort
@@ -40,7 +39,6 @@ edge_port_of h host attachment = record { h = h; me = me_of host; edge = attachm
 
 -- of one host: it is noticed where it stands
 pub record Attends (h : ℕ) (w : WorldView) : Type 0 where
-  pub all_noticed : AreAllNoticed h w
   pub noticed : (host : Host) (attachment : AttachmentPoint) → slice_get w.plan.hosts h ≡ Some host → slice_get w.attachments h ≡ Some attachment → NoticedIn (edge_port_of h host attachment) w
 
 -- ---- what the wiring says of a host

@@ -1,5 +1,5 @@
--- At rest a host that reached its edge switch is registered there.
-use Rattle.std.proofs.Common.{◌≡◌, ◌<◌, ℕ, not, nat_lt, Bool, true, false, List, [], length, refl, sym, ap, ◌∙◌, inl, inr, arith}
+-- At rest a host that is heard is registered where it stands.
+use Rattle.std.proofs.Common.{◌≡◌, ◌<◌, ℕ, nat_lt, Bool, true, List, [], length, Option, Some, None, is_some, refl, sym, ap, ◌∙◌, inl, inr, arith}
 use Rattle.std.specs.List.{list_any}
 use Rattle.std.proofs.lemmas.Bool.{and_from, false≢true}
 use Rattle.std.proofs.lemmas.Bool.Decides.{Decides-ltb}
@@ -9,10 +9,11 @@ use Rattle.pl_wiring.specs.declared.host.Host.{Host}
 use Rattle.pl_wiring.specs.Labels.{edge_count, switch_count}
 use Rattle.pl_wiring.specs.Plan.{Plan}
 use Rattle.pl_layouts.specs.Placement.{is_placed}
+use Rattle.pl_node.specs.AddressUses.{is_in_use}
 use Rattle.pl_node.specs.SwitchViews.{SwitchView}
 use Rattle.pl_queues.specs.Queues.{items_at}
 use Rattle.pl_queues.proofs.Exports.{no_items}
-use Rattle.pl_switch_rule.specs.Granting.{address_at_port, grants_at, is_port_spent}
+use Rattle.pl_switch_rule.specs.Granting.{address_at_port, grants_at}
 use Rattle.pl_world.specs.declared.event.QueueName.TheVariants as queue
 use Rattle.pl_world.specs.declared.item.Item.{Item}
 use Rattle.pl_world.specs.declared.attachment.AttachmentPoint.{AttachmentPoint}
@@ -33,39 +34,41 @@ use Rattle.pl_world.specs.Booting.{CanBegin, booted}
 use Rattle.pl_world.specs.Runs.{Moment, WorldRun}
 use Rattle.pl_law_invariant.specs.ControlInvariant.{ControlInvariant}
 use Rattle.pl_law_invariant.proofs.Exports.{run_keeps_all}
-use Rattle.pl_law_registration.specs.BeingRegistered.{AreBeingRegistered, AreRemembered, IsKnownAt, NothingWaits, HostIsAttached}
+use Rattle.pl_law_registration.specs.BeingRegistered.{AreBeingRegistered, AreRemembered, HostIsAttached, IsHeard, IsKnownAt, NothingWaits, heard_at}
 use Rattle.pl_law_registration.specs.Registering.{AreRegistered}
 use Rattle.pl_law_registration.specs.Probes.{is_packet, is_probe}
-use Rattle.pl_law_registration.specs.Stays.{has_reached}
 use Rattle.pl_law_registration.proofs.Facts.{facts_of}
 use Rattle.pl_law_registration.proofs.KeepingRegistration.{AttendsAll, run_attends}
 use Rattle.pl_law_registration.proofs.Sources.{KnowsAt, low_placed}
 
-known_at : (me : Me) (v : SwitchView) (port : ℕ) → KnowsAt me v port → IsKnownAt v port me
-known_at me v port knows = record {
+known_at : (me : Me) (ticks : ℕ) (v : SwitchView) (port : ℕ) → KnowsAt me ticks v port → IsKnownAt v port me
+known_at me ticks v port knows = record {
   unplaced = knows.unplaced;
   placed = λ settled room.
-      let s = knows.placed settled (turned (nat_lt (length (grants_at v port)) 65535) room) in
+      let s = knows.placed settled ((Decides-ltb (length (grants_at v port)) 65535).1 room) in
       record {
         address = address_at_port v port s.vmid;
         grant = s.grant;
         found = granted_here v (address_at_port v port s.vmid) (local_here v port s.vmid settled) ∙ s.found;
         at_port = refl;
-        used = s.used;
+        used = ap is_in_use s.used;
         mac = s.mac;
         ip = s.ip;
       };
 }
-  where
-    turned : (b : Bool) → not b ≡ false → b ≡ true
-    turned true h = refl
-    turned false h = absurd (false≢true (sym h))
+
+-- it was heard so many ticks ago
+heard_ticks : (o : Option ℕ) → is_some o ≡ true → (ticks : ℕ) × (o ≡ Some ticks)
+heard_ticks None is = absurd (false≢true is)
+heard_ticks (Some ticks) is = (ticks, refl)
 
 pub all_being_registered : (w : WorldView) → AttendsAll w → AreBeingRegistered w
-all_being_registered w all h host attachment v at reached = elim ((all.each h).noticed host attachment at.is_host at.attachments v at.switch reached) [
-  | inl knows ↦ inl (known_at (me_of host) v attachment.port knows)
-  | inr waits ↦ inr waits
-]
+all_being_registered w all h host attachment v at heard =
+    let ticks = heard_ticks (heard_at w h) heard in
+    elim ((all.each h).noticed host attachment at.is_host at.attachments v at.switch ticks.0 ticks.1) [
+      | inl knows ↦ inl (known_at (me_of host) ticks.0 v attachment.port knows)
+      | inr waits ↦ inr waits
+    ]
 
 -- an edge switch that is not placed remembers it
 pub all_remembered : (w : WorldView) → AreBeingRegistered w → AreRemembered w
@@ -78,7 +81,7 @@ none_of : (p : Item → Bool) (xs : List Item) → xs ≡ [] → list_any p xs �
 none_of p xs is any = false≢true (ap (λ (ys : List Item). list_any p ys) (sym is) ∙ any)
 
 pub registered_at_rest : (w : WorldView) → ControlInvariant w → AreBeingRegistered w → NothingWaits w → (h : ℕ) (host : Host) (attachment : AttachmentPoint) (v : SwitchView) → HostIsAttached w h host attachment v →
-    is_placed v.place ≡ true → has_reached w.journal h ≡ true → is_port_spent v attachment.port ≡ false → IsRegisteredWithIp w h
+    is_placed v.place ≡ true → IsHeard w h → length (grants_at v attachment.port) < 65535 → IsRegisteredWithIp w h
 registered_at_rest w kept being_registered nothing h host attachment v at placed reached room =
     let f = facts_of w kept in
     let edge = f.at_edges h attachment at.attachments in

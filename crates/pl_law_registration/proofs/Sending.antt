@@ -1,9 +1,10 @@
 -- A frame of a host comes at its edge switch.
-use Rattle.std.proofs.Common.{◌≡◌, ◌≢◌, ◌⊎◌, ◌<◌, ◌||◌, ℕ, Bool, true, false, set, List, [], ◌∷◌, length, Option, Some, None, slice_get, slice_set, refl, sym, ap, subst, ◌∙◌, inl, inr, get_or-set_same, get_or-set_other}
+use Rattle.std.proofs.Common.{◌≡◌, ◌≢◌, ◌⊎◌, ◌<◌, ℕ, zero, suc, Bool, true, false, if◌then◌else◌, get_or, set, List, [], ◌∷◌, length, Option, Some, None, slice_get, slice_set, refl, sym, ap, subst, ◌∙◌, inl, inr, get_or-set_same, get_or-set_other}
 use Rattle.std.specs.List.{AllByRecursion, list_any}
 use Rattle.std.proofs.lemmas.Bool.{cases_eq, false≢true}
-use Rattle.std.proofs.lemmas.Option.{same_Some}
+use Rattle.std.proofs.lemmas.Option.{none-some, same_Some}
 use Rattle.pl_wiring.specs.declared.host.Host.{Host}
+use Rattle.pl_frame.specs.Ethernet.{source_of}
 use Rattle.pl_layouts.specs.Control.{is_control}
 use Rattle.pl_node.specs.HostDuties.{is_own}
 use Rattle.pl_node.specs.PortRecords.{is_open_to_hosts, port_of}
@@ -13,6 +14,7 @@ use Rattle.pl_node.specs.SwitchViews.{SwitchView}
 use Rattle.pl_journal.specs.declared.entry.Entry.TheVariants.{Crossed}
 use Rattle.pl_queues.specs.Queues.{items_at}
 use Rattle.pl_switch_rule.specs.Forwarding.{Choice}
+use Rattle.pl_switch_rule.specs.Granting.{sender_ip}
 use Rattle.pl_switch_rule.specs.SwitchRule.{Loose, switch_step}
 use Rattle.pl_world.specs.declared.item.Item.{Item}
 use Rattle.pl_world.specs.declared.item.Item.TheVariants.{Control, Data}
@@ -22,6 +24,7 @@ use Rattle.pl_world.specs.declared.attachment.AttachmentPoint.{AttachmentPoint}
 use Rattle.pl_world.specs.Booting.{me_of}
 use Rattle.pl_world.specs.Changes.{noted, switch_no}
 use Rattle.pl_world.specs.Flying.{IsDataItem}
+use Rattle.pl_world.specs.OtherActs.{heard_with}
 use Rattle.pl_world.specs.WorldRule.{ComesIn, DeliversFromHost, SwitchTurn, heard_item}
 use Rattle.pl_world.specs.Worlds.{WorldView}
 use Rattle.pl_law_addresses.specs.OwnFrames.{IsOwnItem}
@@ -29,87 +32,57 @@ use Rattle.pl_switch_rule.proofs.Exports.{all_or}
 use Rattle.pl_law_addresses.proofs.Exports.{any_rest, exists_at, filled_within}
 use Rattle.pl_law_addresses.specs.EdgeAddresses.{is_settled}
 use Rattle.pl_law_registration.specs.BeingRegistered.{AreAttachedApart}
-use Rattle.pl_law_registration.specs.Stays.{Stay, is_among, is_readable, stay_of}
-use Rattle.pl_law_registration.specs.Probes.{is_packet}
-use Rattle.pl_law_registration.proofs.NumbersOfArpFrames.{IsSoon, IsSoonNumber, found_after}
-use Rattle.pl_law_registration.proofs.Acts.{IsSpoken, Rest, stay_then}
-use Rattle.pl_law_registration.proofs.Facts.{Facts}
+use Rattle.pl_law_registration.specs.Probes.{is_packet, is_readable}
+use Rattle.pl_law_registration.proofs.Acts.{Rest}
+use Rattle.pl_law_registration.proofs.Facts.{Facts, IsHome}
 use Rattle.pl_law_registration.proofs.Places.{Attends, own_is, place_of, edge_port_of}
 use Rattle.pl_law_registration.proofs.RowsAttendHosts.{KnowsOrProbes, comes_still, frame_known}
 use Rattle.pl_law_registration.proofs.Sources.{KnowsAt}
-use Rattle.pl_law_registration.proofs.Noticing.{AreAllNoticed, AllNoticed, crossed_stay, crossing_later, crossing_number, all_noticed_on}
-use Rattle.pl_law_registration.proofs.TurnsOfAKnownHost.{IsPlace, Noticed, NoticedIn, EdgePort, Waits, has_reached_in, noticed_on, queue_to, turn_noticed, turn_rest, turn_all_noticed}
+use Rattle.pl_law_registration.proofs.TurnsOfAKnownHost.{IsPlace, NoticedIn, EdgePort, Waits, noticed_on, queue_to, turn_keeps, turn_noticed, turn_rest}
 
 -- what an event leaves of the wiring and of where hosts stand, and what is kept of one host
 pub record Keeps (h : ℕ) (w new : WorldView) : Type 0 where
   pub rest : (new.plan ≡ w.plan) × (new.attachments ≡ w.attachments)
-  pub all_noticed : AreAllNoticed h new
   pub noticed : (host : Host) (attachment : AttachmentPoint) → slice_get w.plan.hosts h ≡ Some host → slice_get w.attachments h ≡ Some attachment → NoticedIn (edge_port_of h host attachment) new
 
--- a turn of a switch in which all that is known stays known
-pub turn_keeps : (at : EdgePort) (w : WorldView) (s : ℕ) (input : SwitchInput) (speech : SpokenFrame) (new : WorldView) → (turn : SwitchTurn Loose w s input speech new) → (t : AreAllNoticed at.h w) →
-    IsSpoken at.h (stay_of w.journal at.h) w.begun speech → IsPlace at w → NoticedIn at w →
-    ((v : SwitchView) → at.edge ≡ s → slice_get w.switches at.edge ≡ Some v → (choose : Choice) → KnowsAt at.me v at.port →
-    KnowsOrProbes at.me at.port (switch_step choose v input)) → NoticedIn at new
-turn_keeps at w s input speech new turn t spoken place noticed still =
-    turn_noticed at w s input speech new turn t spoken place
-    (λ v same found choose reached. by v same (ap (λ n. slice_get w.switches n) same ∙ found) choose (noticed v (ap (λ n. slice_get w.switches n) same ∙ found) reached))
-    (λ other. noticed)
-  where
-    by : (v : SwitchView) → at.edge ≡ s → slice_get w.switches at.edge ≡ Some v → (choose : Choice) → Noticed at v (queue_to at w) (items_at w.from_hosts at.h) →
-        KnowsOrProbes at.me at.port (switch_step choose v input) ⊎ ((is_settled v.place ≡ true) × Waits at (queue_to at w) (items_at w.from_hosts at.h))
-    by v same found choose (inl knows) = inl (still v same found choose knows)
-    by v same found choose (inr waits) = inr waits
-
 -- where it does not matter where the host stands
-abbrev pub any_edge_port : ℕ → EdgePort
+any_edge_port : ℕ → EdgePort
 any_edge_port h = record { h = h; me = record { mac = record { 0 = [] }; ip = record { 0 = 0 } }; edge = 0; port = 0 }
 
 -- of a turn of a switch in a world that has the wiring and the stands of an earlier one
-pub kept_places : (h : ℕ) (w mid : WorldView) (s : ℕ) (input : SwitchInput) (speech : SpokenFrame) (new : WorldView) → (turn : SwitchTurn Loose mid s input speech new) → (t : AreAllNoticed h mid) →
-    (spoken : IsSpoken h (stay_of mid.journal h) mid.begun speech) → mid.plan ≡ w.plan → mid.attachments ≡ w.attachments → (new.plan ≡ w.plan) × (new.attachments ≡ w.attachments)
-kept_places h w mid s input speech new turn t spoken plan attachments =
-    let rest = turn_rest (any_edge_port h) mid s input speech new turn t spoken in
+pub kept_places : (w mid : WorldView) (s : ℕ) (input : SwitchInput) (speech : SpokenFrame) (new : WorldView) → (turn : SwitchTurn Loose mid s input speech new) →
+    mid.plan ≡ w.plan → mid.attachments ≡ w.attachments → (new.plan ≡ w.plan) × (new.attachments ≡ w.attachments)
+kept_places w mid s input speech new turn plan attachments =
+    let rest = turn_rest (any_edge_port 0) mid s input speech new turn in
     (ap (λ (r : Rest). r.plan) rest ∙ plan, ap (λ (r : Rest). r.attachments) rest ∙ attachments)
+
+-- ---- how long ago a host was heard, where one sent a frame
+heard_other : (heard : List (Option ℕ)) (g h : ℕ) (now : Option ℕ) → h ≢ g → get_or (set heard g now) h None ≡ get_or heard h None
+heard_other heard g h now other = get_or-set_other heard g h now None other
+
+-- it was not heard longer ago than now; where it was not heard at all, the frame can be read
+record WasHeard (before : Option ℕ) (frame : List ℕ) : Type 0 where
+  known : (before ≡ None) → is_readable frame ≡ true
+
+heard_now : (heard : List (Option ℕ)) (h : ℕ) (frame : List ℕ) (ticks : ℕ) → get_or (set heard h (heard_with frame (get_or heard h None))) h None ≡ Some ticks →
+    (ticks ≡ 0) × WasHeard (get_or heard h None) frame
+heard_now [] h frame ticks is = absurd (none-some ticks is)
+heard_now (o ∷ heard) zero frame ticks is = by o is
+  where
+    by : (o : Option ℕ) → heard_with frame o ≡ Some ticks → (ticks ≡ 0) × WasHeard o frame
+    by None e = reads (is_readable frame) refl e
+      where
+        reads : (b : Bool) → is_readable frame ≡ b → if◌then◌else◌ {A = Option ℕ} b (Some 0) None ≡ Some ticks → (ticks ≡ 0) × WasHeard None frame
+        reads true readable some = (sym (same_Some 0 ticks some), record { known = λ none. readable })
+        reads false readable none = absurd (none-some ticks none)
+    by (Some before) e = (sym (same_Some 0 ticks e), record { known = λ none. absurd (none-some before (sym none)) })
+heard_now (o ∷ heard) (suc h) frame ticks is = heard_now heard h frame ticks is
 
 module _ (h : ℕ) (w : WorldView) (f : Facts w) (apart : AreAttachedApart w.attachments) (a : Attends h w) (g id : ℕ) (frame : List ℕ) (rest : List Item) (head : items_at w.from_hosts g ≡ Data id frame ∷ rest)
     (gs : AttachmentPoint) (at_gs : slice_get w.attachments g ≡ Some gs) where
-  stay : Stay
-  stay = stay_of w.journal h
-
   -- the frame left its queue and crosses the switch
   abbrev mid : WorldView
   mid = noted (heard_item (record w { from_hosts = set w.from_hosts g rest }) g (Data id frame)) (Crossed id (switch_no gs.edge.0))
-
-  soon : IsSoonNumber (stay_of w.journal h) w.begun (g ≡ h) id frame
-  soon = (subst (λ (xs : List Item). AllByRecursion (IsSoon (stay_of w.journal h) w.begun (g ≡ h)) xs) head (a.all_noticed.soon g)).0
-
-  stay_is : stay_of mid.journal h ≡ crossed_stay (stay_of w.journal h) id
-  stay_is = stay_then h w.journal (Crossed id (switch_no gs.edge.0) ∷ [])
-
-  mid_all_noticed : AreAllNoticed h mid
-  mid_all_noticed =
-      subst (λ (s : Stay). AllNoticed h s w.begun w.out (set w.from_hosts g rest)) (sym stay_is)
-      (all_noticed_on (stay_of w.journal h) w.begun (crossed_stay (stay_of w.journal h) id) w.begun (crossing_later (stay_of w.journal h) w.begun id a.all_noticed.numbers) h w.out (set w.from_hosts g rest)
-      (record {
-        numbers = a.all_noticed.numbers;
-        past = a.all_noticed.past;
-        soon = λ n. found_after (λ (xs : List Item). AllByRecursion (IsSoon (stay_of w.journal h) w.begun (n ≡ h)) xs) w.from_hosts g n rest (a.all_noticed.soon n)
-            (λ same. (subst (λ (xs : List Item). AllByRecursion (IsSoon (stay_of w.journal h) w.begun (n ≡ h)) xs) (ap (λ m. items_at w.from_hosts m) same ∙ head) (a.all_noticed.soon n)).1);
-      }))
-
-  spoken_mid : IsSpoken h (stay_of mid.journal h) w.begun (Waiting id false)
-  spoken_mid = subst (λ (s : Stay). IsSpoken h s w.begun (Waiting id false)) (sym stay_is) (crossing_number (stay_of w.journal h) w.begun id soon.old)
-
-  -- the host was reached before, or this is a frame of it that can be read
-  reached_before : has_reached_in (any_edge_port h) mid ≡ true →
-      ((stay_of w.journal h).reached ≡ true) ⊎ ((g ≡ h) × (is_readable frame ≡ true))
-  reached_before now = by (stay_of w.journal h).reached refl (sym (ap (λ (s : Stay). s.reached) stay_is) ∙ now)
-    where
-      by : (b : Bool) → (stay_of w.journal h).reached ≡ b → ((stay_of w.journal h).reached || is_among id (stay_of w.journal h).sent) ≡ true →
-          ((stay_of w.journal h).reached ≡ true) ⊎ ((g ≡ h) × (is_readable frame ≡ true))
-      by true is k = inl is
-      by false is k = soon.through (ap (λ b. b || is_among id (stay_of w.journal h).sent) (sym is) ∙ k)
 
   module _ (new : WorldView) (turn : SwitchTurn Loose mid gs.edge.0 (Comes gs.port frame) (Waiting id false) new) (host : Host) (attachment : AttachmentPoint)
       (at_host : slice_get w.plan.hosts h ≡ Some host) (at_attachment : slice_get w.attachments h ≡ Some attachment) (data_frame : is_control frame ≡ false) (own : g ≡ h → is_own (me_of host) frame ≡ true) where
@@ -119,18 +92,18 @@ module _ (h : ℕ) (w : WorldView) (f : Facts w) (apart : AreAttachedApart w.att
     -- a frame of another host
     others : g ≢ h → NoticedIn (edge_port_of h host attachment) new
     others other =
-        turn_keeps (edge_port_of h host attachment) mid gs.edge.0 (Comes gs.port frame) (Waiting id false) new turn mid_all_noticed spoken_mid place_mid
+        turn_keeps (edge_port_of h host attachment) mid gs.edge.0 (Comes gs.port frame) (Waiting id false) new turn place_mid
         (noticed_on (edge_port_of h host attachment) w mid (record {
           switches = refl;
-          reached = λ now. elim (reached_before now) [ inl before ↦ before | inr mine ↦ absurd (other mine.0) ];
+          heard = heard_other w.heard g h (heard_with frame (get_or w.heard g None)) (λ e. other (sym e));
           out = λ is. is;
           mine = λ is. ap (λ (xs : List Item). list_any is_packet xs) (get_or-set_other w.from_hosts g h rest [] (λ e. other (sym e))) ∙ is;
         }) (a.noticed host attachment at_host at_attachment))
-        (λ v same found choose knows.
+        (λ v same found choose ticks knows.
         let edge = f.at_edges h attachment at_attachment in
         let home = f.homes attachment.edge.0 attachment.port v edge.edge edge.port edge.free found in
         inl (comes_still (me_of host) attachment.port v home.ready choose gs.port frame
-        (λ no_control takes. inl (λ ports. other (sym (apart h g attachment gs at_attachment at_gs same ports)))) knows))
+        (λ no_control takes ports. other (sym (apart h g attachment gs at_attachment at_gs same ports))) ticks knows))
 
     -- a frame of this one
     its : g ≡ h → NoticedIn (edge_port_of h host attachment) new
@@ -138,28 +111,19 @@ module _ (h : ℕ) (w : WorldView) (f : Facts w) (apart : AreAttachedApart w.att
         let attachment_is : attachment ≡ gs = same_Some attachment gs (sym at_attachment ∙ ap (λ n. slice_get w.attachments n) (sym same) ∙ at_gs) in
         let mine = own_is (me_of host) frame (own same) in
         let edge = f.at_edges h attachment at_attachment in
-        turn_noticed (edge_port_of h host attachment) mid gs.edge.0 (Comes gs.port frame) (Waiting id false) new turn mid_all_noticed spoken_mid place_mid
-        (λ v edges found choose reached.
+        turn_noticed (edge_port_of h host attachment) mid gs.edge.0 (Comes gs.port frame) (Waiting id false) new turn place_mid
+        (λ v edges found choose ticks heard.
         let here : slice_get w.switches attachment.edge.0 ≡ Some v = ap (λ n. slice_get w.switches n) edges ∙ found in
         let home = f.homes attachment.edge.0 attachment.port v edge.edge edge.port edge.free here in
         let ports : attachment.port ≡ gs.port = ap (λ (x : AttachmentPoint). x.port) attachment_is in
+        let takes : is_open_to_hosts (port_of v gs.port) ≡ true = subst (λ n. is_open_to_hosts (port_of v n) ≡ true) ports home.takes in
+        let now = heard_now w.heard h frame ticks
+        (ap (λ n. get_or (set w.heard n (heard_with frame (get_or w.heard n None))) h None) (sym same) ∙ heard) in
+        let known : KnowsAt (me_of host) 0 (switch_step choose v (Comes gs.port frame)).view attachment.port → KnowsOrProbes (me_of host) attachment.port ticks (switch_step choose v (Comes gs.port frame)) =
+        (λ k. inl (subst (λ n. KnowsAt (me_of host) n (switch_step choose v (Comes gs.port frame)).view attachment.port) (sym now.0) k)) in
         elim mine.said [
-          | inl said ↦
-              inl (inl (frame_known (me_of host) attachment.port v home.ready choose gs.port frame ports data_frame (subst (λ n. is_open_to_hosts (port_of v n) ≡ true) ports home.takes) mine.source said.1))
-          | inr silent ↦
-              let before : (stay_of w.journal h).reached ≡ true =
-              elim (reached_before reached) [ inl was ↦ was | inr read ↦ absurd (false≢true (sym silent.0 ∙ read.1)) ] in
-              elim (a.noticed host attachment at_host at_attachment v here before) [
-                | inl knows ↦
-                    inl (inl (comes_still (me_of host) attachment.port v home.ready choose gs.port frame (λ no_control takes. inr (ports, (mine.source, inr silent.1))) knows))
-                | inr waits ↦ inr (
-                  waits.0,
-                  elim waits.1 [
-                    | inl probe ↦ inl probe
-                    | inr packet ↦ inr (still_packet silent.0 packet)
-                  ],
-                )
-              ]
+          | inl said ↦ inl (known (frame_known (me_of host) attachment.port v home.ready choose 0 gs.port frame ports data_frame takes mine.source (inl said.1)))
+          | inr silent ↦ by_heard (get_or w.heard h None) refl v here choose ticks home takes ports mine.source silent now.1 known
         ])
         (λ other. absurd (other (ap (λ (x : AttachmentPoint). x.edge.0) attachment_is)))
       where
@@ -171,6 +135,24 @@ module _ (h : ℕ) (w : WorldView) (f : Facts w) (apart : AreAttachedApart w.att
             ap (λ n. list_any is_packet (items_at (set w.from_hosts g rest) n)) (sym same)
             ∙ ap (λ (xs : List Item). list_any is_packet xs) (get_or-set_same w.from_hosts g rest [] (filled_within w.from_hosts g (Data id frame) rest head))
             ∙ any_rest is_packet (Data id frame) rest silent (ap (λ (xs : List Item). list_any is_packet xs) (sym here_is) ∙ packet)
+
+        -- it was heard before, and what was known of it stays known
+        by_heard : (before : Option ℕ) → get_or w.heard h None ≡ before → (v : SwitchView) → slice_get w.switches attachment.edge.0 ≡ Some v → (choose : Choice) → (ticks : ℕ) → IsHome v attachment.port →
+            is_open_to_hosts (port_of v gs.port) ≡ true → attachment.port ≡ gs.port → source_of frame ≡ host.mac → (is_readable frame ≡ false) × (sender_ip frame ≡ None) → WasHeard (get_or w.heard h None) frame →
+            (KnowsAt (me_of host) 0 (switch_step choose v (Comes gs.port frame)).view attachment.port → KnowsOrProbes (me_of host) attachment.port ticks (switch_step choose v (Comes gs.port frame))) →
+            KnowsOrProbes (me_of host) attachment.port ticks (switch_step choose v (Comes gs.port frame))
+            ⊎ ((is_settled v.place ≡ true) × Waits (edge_port_of h host attachment) (queue_to (edge_port_of h host attachment) mid) (items_at mid.from_hosts h))
+        by_heard None was v here choose ticks home takes ports source silent heard known = absurd (false≢true (sym silent.0 ∙ heard.known was))
+        by_heard (Some before) was v here choose ticks home takes ports source silent heard known = elim (a.noticed host attachment at_host at_attachment v here before was) [
+          | inl knows ↦ inl (known (frame_known (me_of host) attachment.port v home.ready choose before gs.port frame ports data_frame takes source (inr (silent.1, knows))))
+          | inr waits ↦ inr (
+            waits.0,
+            elim waits.1 [
+              | inl probe ↦ inl probe
+              | inr packet ↦ inr (still_packet silent.0 packet)
+            ],
+          )
+        ]
 
     pub frame_noticed : NoticedIn (edge_port_of h host attachment) new
     frame_noticed = elim (cases_eq g h) [ inl same ↦ its same | inr other ↦ others other ]
@@ -185,13 +167,10 @@ module _ (h : ℕ) (w : WorldView) (f : Facts w) (apart : AreAttachedApart w.att
   comes_in g item rest new head None at_gs comes = absurd comes
   comes_in g (Control frame) rest new head (Some gs) at_gs comes = absurd (data_only w.from_hosts g (Control frame) rest f.host_items head)
   comes_in g (Data id frame) rest new head (Some gs) at_gs turn =
-      let t = mid_all_noticed h w f apart a g id frame rest head gs at_gs in
-      let spoken = spoken_mid h w f apart a g id frame rest head gs at_gs in
       let u = mid h w f apart a g id frame rest head gs at_gs in
       let is_data = data_only w.from_hosts g (Data id frame) rest f.host_items head in
       record {
-        rest = kept_places h w u gs.edge.0 (Comes gs.port frame) (Waiting id false) new turn t spoken refl refl;
-        all_noticed = turn_all_noticed (any_edge_port h) u gs.edge.0 (Comes gs.port frame) (Waiting id false) new turn t spoken;
+        rest = kept_places w u gs.edge.0 (Comes gs.port frame) (Waiting id false) new turn refl refl;
         noticed = λ host attachment at_host at_attachment.
             frame_noticed h w f apart a g id frame rest head gs at_gs new turn host attachment at_host at_attachment is_data.kind
             (λ same. own_item host at_host (subst (λ (n : ℕ). items_at w.from_hosts n ≡ Data id frame ∷ rest) same head));

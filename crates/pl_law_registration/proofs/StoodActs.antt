@@ -18,7 +18,7 @@ use Rattle.pl_node.specs.SwitchViews.{SwitchView}
 use Rattle.pl_journal.specs.declared.cause.Cause.{Cause}
 use Rattle.pl_journal.specs.declared.cause.Cause.TheVariants.{LinkDown}
 use Rattle.pl_journal.specs.declared.entry.Entry.{Entry}
-use Rattle.pl_journal.specs.declared.entry.Entry.TheVariants.{Copied, Crossed, Dropped, Granted, Made, Moved, Placed, Redirected, Sent, Taken}
+use Rattle.pl_journal.specs.declared.entry.Entry.TheVariants.{Copied, Crossed, Dropped, Freed, Granted, Made, Moved, Placed, Redirected, Sent, Taken}
 use Rattle.pl_journal.specs.Places.{EdgePort, at_port, has_stood, same_edge_port}
 use Rattle.pl_journal.proofs.Exports.{past_more}
 use Rattle.pl_world.specs.declared.item.Item.{Item}
@@ -97,6 +97,7 @@ module _ (plan : Plan) where
   grant_later before after wrote s (act.Grant x mac ∷ acts) all = (stood_later before after wrote mac s x.port all.0, grant_later before after wrote s acts all.1)
   grant_later before after wrote s (act.Tell told ∷ acts) all = (tt, grant_later before after wrote s acts all.1)
   grant_later before after wrote s (act.Control port frame ∷ acts) all = (tt, grant_later before after wrote s acts all.1)
+  grant_later before after wrote s (act.Free x ∷ acts) all = (tt, grant_later before after wrote s acts all.1)
   grant_later before after wrote s (act.Make frame ∷ acts) all = (tt, grant_later before after wrote s acts all.1)
   grant_later before after wrote s (act.Redirect old new ∷ acts) all = (tt, grant_later before after wrote s acts all.1)
   grant_later before after wrote s (act.Pass port frame ∷ acts) all = (tt, grant_later before after wrote s acts all.1)
@@ -168,6 +169,7 @@ module _ (plan : Plan) where
   one_act is_plan s d (act.Tell told) same none it = record { wrote = wrote_nothing d.world.journal; late = none; rest = refl }
   one_act is_plan s d (act.Grant x mac) same none it =
       grants is_plan s d x mac (host_of d.world.plan mac) (ap (λ (p : Plan). host_of p mac) (sym same)) it none
+  one_act is_plan s d (act.Free x) same none it = record { wrote = wrote_quiet d.world.journal (Freed x) tt; late = none; rest = refl }
   one_act is_plan s d (act.Make frame) same none it =
       let j1 : List Entry = d.world.journal ++ d.late in
       let j2 : List Entry = j1 ++ Made (d.world.begun + 1) (switch_no s) frame ∷ [] in

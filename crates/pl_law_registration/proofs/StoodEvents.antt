@@ -124,6 +124,7 @@ switch_stood w is_plan st s input speech new turn fits =
     same_grants (act.Grant x mac ∷ acts) all = (all.0, same_grants acts all.1)
     same_grants (act.Tell told ∷ acts) all = (tt, same_grants acts all.1)
     same_grants (act.Control port frame ∷ acts) all = (tt, same_grants acts all.1)
+    same_grants (act.Free x ∷ acts) all = (tt, same_grants acts all.1)
     same_grants (act.Make frame ∷ acts) all = (tt, same_grants acts all.1)
     same_grants (act.Redirect old new' ∷ acts) all = (tt, same_grants acts all.1)
     same_grants (act.Pass port frame ∷ acts) all = (tt, same_grants acts all.1)

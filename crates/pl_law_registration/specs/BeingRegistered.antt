@@ -1,11 +1,11 @@
 -- Whether the edge switch where a host stands knows it, or is going to.
-use Rattle.std.specs.Prelude.{◌≡◌, ◌⊎◌, ℕ, true, false, List, Some, slice_get}
+use Rattle.std.specs.Prelude.{◌≡◌, ◌⊎◌, ◌<◌, ℕ, true, false, List, length, Option, Some, None, is_some, slice_get, slice_index_or}
 use Rattle.std.specs.List.{list_any}
 use Rattle.pl_arp.specs.declared.cache.Me.{Me}
 use Rattle.pl_wiring.specs.declared.host.Host.{Host}
 use Rattle.pl_node.specs.SwitchViews.{SwitchView}
 use Rattle.pl_queues.specs.Queues.{items_at}
-use Rattle.pl_switch_rule.specs.Granting.{is_port_spent, remembered_at}
+use Rattle.pl_switch_rule.specs.Granting.{grants_at, remembered_at}
 use Rattle.pl_world.specs.declared.event.QueueName.{QueueName}
 use Rattle.pl_world.specs.declared.attachment.AttachmentPoint.{AttachmentPoint}
 use Rattle.pl_world.specs.Booting.{me_of}
@@ -15,13 +15,21 @@ use Rattle.pl_world.specs.Worlds.{WorldView}
 use Rattle.pl_law_addresses.specs.Registered.{IsServed}
 use Rattle.pl_law_addresses.specs.EdgeAddresses.{is_settled}
 use Rattle.pl_law_registration.specs.Probes.{is_packet, is_probe}
-use Rattle.pl_law_registration.specs.Stays.{has_reached}
 
--- An edge switch that is not placed yet remembers the host at this port. A placed one has an address of this port in use for it, unless all the
--- vmids of the port were given.
+-- How many ticks of its edge switch ago a frame of a host reached that switch, where an ARP frame that can be read reached it before or then, since
+-- the host came where it stands; none after 300 ticks.
+abbrev pub heard_at : WorldView → ℕ → Option ℕ
+heard_at w h = slice_index_or w.heard h None
+
+-- a host is heard
+abbrev pub IsHeard : WorldView → ℕ → Type 0
+IsHeard w h = is_some (heard_at w h) ≡ true
+
+-- An edge switch that is not placed yet remembers the host at this port. A placed one has an address of this port in use for it, as long as vmid
+-- 65,535 of the port was not given.
 pub record IsKnownAt (v : SwitchView) (port : ℕ) (me : Me) : Type 0 where
   pub unplaced : is_settled v.place ≡ false → remembered_at v port ≡ Some (record { amac = me.mac; ip = Some me.ip })
-  pub placed : is_settled v.place ≡ true → is_port_spent v port ≡ false → IsServed v port me
+  pub placed : is_settled v.place ≡ true → length (grants_at v port) < 65535 → IsServed v port me
 
 -- a host of the wiring stands at a port of this switch
 pub record HostIsAttached (w : WorldView) (h : ℕ) (host : Host) (attachment : AttachmentPoint) (v : SwitchView) : Type 0 where
@@ -35,13 +43,13 @@ IsBeingRegistered w h host attachment v =
     IsKnownAt v attachment.port (me_of host)
     ⊎ ((is_settled v.place ≡ true) × ((list_any (is_probe (me_of host)) (out_of w attachment.edge.0 attachment.port) ≡ true) ⊎ (list_any is_packet (items_at w.from_hosts h) ≡ true)))
 
--- each host of which such a frame reached the edge switch where it stands
+-- each host that is heard where it stands
 abbrev pub AreBeingRegistered : WorldView → Type 0
-AreBeingRegistered w = (h : ℕ) (host : Host) (attachment : AttachmentPoint) (v : SwitchView) → HostIsAttached w h host attachment v → has_reached w.journal h ≡ true → IsBeingRegistered w h host attachment v
+AreBeingRegistered w = (h : ℕ) (host : Host) (attachment : AttachmentPoint) (v : SwitchView) → HostIsAttached w h host attachment v → IsHeard w h → IsBeingRegistered w h host attachment v
 
 -- An edge switch that is not placed remembers each of these hosts, with its IPv4 address.
 abbrev pub AreRemembered : WorldView → Type 0
-AreRemembered w = (h : ℕ) (host : Host) (attachment : AttachmentPoint) (v : SwitchView) → HostIsAttached w h host attachment v → has_reached w.journal h ≡ true → is_settled v.place ≡ false →
+AreRemembered w = (h : ℕ) (host : Host) (attachment : AttachmentPoint) (v : SwitchView) → HostIsAttached w h host attachment v → IsHeard w h → is_settled v.place ≡ false →
     remembered_at v attachment.port ≡ Some (record { amac = host.mac; ip = Some host.ip })
 
 -- no two hosts stand at one place

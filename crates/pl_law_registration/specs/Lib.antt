@@ -1,4 +1,3 @@
-pub mod Stays
 pub mod Probes
 pub mod BeingRegistered
 pub mod Registering

@@ -1,14 +1,13 @@
 //! Laws of how hosts are attended to: the edge switch where a host stands knows it once an ARP frame of it
 //! came there, or is going to; so where every queue is empty it is registered there.
 //!
-//! Laws of what settlings and scripts leave: a fabric at rest has nothing in its queues, so each host that was heard where it
+//! Laws of what settlings and scripts leave: a fabric at rest has nothing in its queues, so each host that is heard where it
 //! stands is registered there.
 #![tactic(auto)]
 
 pub use being_registered_laws::{
     hosts_are_being_registered_in_every_run, no_two_hosts_stand_at_one_place,
     unplaced_edge_switches_remember_hosts,
-    what_a_journal_says_of_a_host_that_reached_its_edge_switch,
 };
 pub use registration_laws::{
     a_host_is_registered_at_rest, a_host_is_registered_at_rest_in_every_run,

@@ -10,9 +10,9 @@ use pl_host_rule::LawfulHost;
 use pl_manager_rule::LawfulManager;
 use pl_switch_rule::LooseSwitch;
 
-/// Where every queue is empty, a host is registered whose edge switch is placed, of which an ARP frame that can be
-/// read reached that switch since it came there, and at whose port not all addresses were given: its newest
-/// address is in use at that port, and the fabric manager was told its IPv4 address with it.
+/// Where every queue is empty, a host is registered whose edge switch is placed, which is heard there, and at whose
+/// port vmid 65,535 was not given: its newest address is in use at that port, and the fabric manager was told its
+/// IPv4 address with it.
 pub fn a_host_is_registered_at_rest()
     ensures { (w : WorldView) → ControlInvariant w → AreBeingRegistered w → NothingWaits w → AreRegistered w }
 {}

@@ -19,8 +19,7 @@ pub fn a_fabric_at_rest_has_empty_queues()
 {}
 
 /// So at each moment of a run of lawful logic at which the fabric is at rest, each host is registered where it
-/// stands whose edge switch is placed, of which an ARP frame that can be read reached that switch since it came
-/// there, and at whose port not all addresses were given.
+/// stands whose edge switch is placed, which is heard there, and at whose port vmid 65,535 was not given.
 pub fn a_fabric_at_rest_has_its_hosts_registered<S: LooseSwitch, M: LawfulManager, H: LawfulHost>()
     ensures { InEveryRun S.rule M.rule H.rule (λ new. IsAtRest new → AreRegistered new) }
 {}

@@ -1,5 +1,6 @@
 -- A switch drops frames by its rule for the first cause that holds.
-use Rattle.std.proofs.Common.{◌≡◌, ◌<◌, ◌&&◌, ◌||◌, not, ℕ, ◌+◌, Bool, true, false, if◌then◌else◌, List, [], ◌∷◌, ◌++◌, Option, Some, None, slice_get, is_none, is_some, refl, sym, ◌∙◌, ap, subst, append-nil, append_assoc}
+use Rattle.std.proofs.Common.{◌≡◌, ◌<◌, ◌&&◌, ◌||◌, not, ℕ, ◌+◌, Bool, true, false, if◌then◌else◌, List, [], ◌∷◌, ◌++◌, Option, Some, None, slice_get, is_none, is_some, refl, sym, ◌∙◌, ap, subst, append-nil, append_assoc, ◌⊎◌, inl, inr}
+use Rattle.std.specs.List.{AllByRecursion}
 use Rattle.std.proofs.lemmas.Option.{same_Some}
 use Rattle.pl_frame.specs.declared.address.Mac.{Mac}
 use Rattle.pl_frame.specs.Ethernet.{destination_of, source_of}
@@ -27,16 +28,16 @@ use Rattle.pl_node.specs.SwitchInputs.{SwitchInput, SwitchRule}
 use Rattle.pl_node.specs.SwitchInputs.SwitchInput.{Comes, Says, Tick}
 use Rattle.pl_node.specs.SwitchViews.{SwitchView}
 use Rattle.pl_switch_rule.specs.declared.came.Came.TheVariants.{FromHost}
-use Rattle.pl_switch_rule.specs.CauseOf.{DropsFor, Intake, behind_make, by_intake, cause_at, cause_from_here, cause_of, cause_of_made, cause_of_message, cause_to, if_nowhere, if_sent_on, intake, intake_of_host, is_told, reply_to}
+use Rattle.pl_switch_rule.specs.CauseOf.{DropsFor, Intake, IsNoDrop, behind_make, by_intake, cause_at, cause_from_here, cause_of, cause_of_made, cause_of_message, cause_to, if_nowhere, if_sent_on, intake, intake_of_host, is_told, reply_to}
 use Rattle.pl_switch_rule.specs.CauseOf.Intake.{Refused, SentOn, TakenIn}
 use Rattle.pl_switch_rule.specs.Delivering.{trap_for}
 use Rattle.pl_switch_rule.specs.DropCauses.{address_after, came_in, first_drop, has_no_hosts, is_for_members, is_of_host, known_source, places, seen}
 use Rattle.pl_switch_rule.specs.Forwarding.{candidates_by}
-use Rattle.pl_switch_rule.specs.Granting.{has_no_address, is_granted, is_local, is_port_spent}
+use Rattle.pl_switch_rule.specs.Granting.{has_no_address, held_here, is_granted, is_local, is_port_spent}
 use Rattle.pl_switch_rule.specs.GroupForwarding.{group_ports_up}
 use Rattle.pl_switch_rule.specs.Intake.{is_for_switch}
 use Rattle.pl_switch_rule.specs.SwitchRule.{Loose}
-use Rattle.pl_switch_rule.proofs.Exports.{loose_drops_for_first_cause}
+use Rattle.pl_switch_rule.proofs.Exports.{loose_drops_for_first_cause, no_first_drop}
 use Rattle.pl_queues.specs.Queues.{items_at}
 use Rattle.pl_world.specs.declared.event.Event.{Event}
 use Rattle.pl_world.specs.declared.event.Event.TheVariants as event
@@ -102,8 +103,8 @@ intake_refuses v port frame =
 
 at_of_rule : (v : SwitchView) (address : Pmac) → IsOfRule (cause_at v address)
 at_of_rule v address =
-    either (is_local v address) (if is_granted v address then None else Some NoAddress) (if_nowhere (candidates_by v address (Some FromHost)) NoNextHop)
-    (either (is_granted v address) None (Some NoAddress) tt refl) (nowhere (candidates_by v address (Some FromHost)) NoNextHop refl)
+    either (is_local v address) (if is_some (held_here v address) then None else Some NoAddress) (if_nowhere (candidates_by v address (Some FromHost)) NoNextHop)
+    (either (is_some (held_here v address)) None (Some NoAddress) tt refl) (nowhere (candidates_by v address (Some FromHost)) NoNextHop refl)
 
 from_here_of_rule : (v : SwitchView) (address : Pmac) → IsOfRule (cause_from_here v address)
 from_here_of_rule v address = at_of_rule v (address_after v address (trap_for v address))
@@ -129,6 +130,7 @@ message_of_rule v (says.Answer asker asker_ip ip pmac) =
 message_of_rule v (says.Flood asker asker_ip ip) =
     either (is_granted v asker) (if_nowhere (group_ports_up v flood) NoNextHop) None (nowhere (group_ports_up v flood) NoNextHop refl) tt
 message_of_rule v (says.Invalidate old new number ip) = tt
+message_of_rule v (says.Release address) = tt
 
 came_of_rule : (v : SwitchView) (input : SwitchInput) → IsOfRule (cause_of v input)
 came_of_rule v (Comes port frame) =
@@ -159,6 +161,7 @@ wrong [] h = never h
 wrong (act.Control port frame ∷ acts) h = wrong acts h
 wrong (act.Tell told ∷ acts) h = wrong acts h
 wrong (act.Grant pmac amac ∷ acts) h = wrong acts h
+wrong (act.Free pmac ∷ acts) h = wrong acts h
 wrong (act.Make frame ∷ acts) h = wrong acts h
 wrong (act.Redirect old new ∷ acts) h = wrong acts h
 wrong (act.Pass port frame ∷ acts) h = wrong acts h
@@ -172,6 +175,7 @@ passed_on [] h = refl
 passed_on (act.Control port frame ∷ acts) h = passed_on acts h
 passed_on (act.Tell told ∷ acts) h = passed_on acts h
 passed_on (act.Grant pmac amac ∷ acts) h = wrong acts h
+passed_on (act.Free pmac ∷ acts) h = wrong acts h
 passed_on (act.Make frame ∷ acts) h = refl
 passed_on (act.Redirect old new ∷ acts) h = wrong acts h
 passed_on (act.Pass port frame ∷ acts) h = passed_on acts h
@@ -184,6 +188,7 @@ ended [] h = refl
 ended (act.Control port frame ∷ acts) h = ended acts h
 ended (act.Tell told ∷ acts) h = ended acts h
 ended (act.Grant pmac amac ∷ acts) h = wrong acts h
+ended (act.Free pmac ∷ acts) h = wrong acts h
 ended (act.Make frame ∷ acts) h = refl
 ended (act.Redirect old new ∷ acts) h = wrong acts h
 ended (act.Pass port frame ∷ acts) h = wrong acts h
@@ -235,6 +240,8 @@ module _ (is_failed : ℕ → Bool) where
   of_one begun id (act.Tell told ∷ acts) true said rule more = of_one begun id acts true said rule more
   of_one begun id (act.Grant pmac amac ∷ acts) false said rule more = of_one begun id acts false said rule more
   of_one begun id (act.Grant pmac amac ∷ acts) true said rule more = wrong acts said
+  of_one begun id (act.Free pmac ∷ acts) false said rule more = wrong acts said
+  of_one begun id (act.Free pmac ∷ acts) true said rule more = wrong acts said
   of_one begun id (act.Make frame ∷ acts) false said rule more = wrong acts said
   of_one begun id (act.Make frame ∷ acts) true said rule more = wrong acts said
   of_one begun id (act.Redirect old new ∷ acts) false said rule more = of_one begun id acts true said rule more
@@ -268,29 +275,54 @@ module _ (is_failed : ℕ → Bool) where
   none_made start begun (act.Control port frame ∷ acts) said none = none_made (frame_state_after start (act.Control port frame)) begun acts said none
   none_made start begun (act.Tell told ∷ acts) said none = none_made (frame_state_after start (act.Tell told)) begun acts said none
   none_made start begun (act.Grant pmac amac ∷ acts) said none = none_made (frame_state_after start (act.Grant pmac amac)) begun acts said none
+  none_made start begun (act.Free pmac ∷ acts) said none = none_made (frame_state_after start (act.Free pmac)) begun acts said none
   none_made start begun (act.Redirect old new ∷ acts) said none = none_made (frame_state_after start (act.Redirect old new)) begun acts said none
   none_made start begun (act.Pass port frame ∷ acts) said none = none_made (frame_state_after start (act.Pass port frame)) begun acts said none
   none_made start begun (act.Take ∷ acts) said none = none_made (frame_state_after start act.Take) begun acts said none
   none_made start begun (act.Drop cause ∷ acts) said none = none_made (frame_state_after start (act.Drop cause)) begun acts said none
 
-  of_made : (start : FrameState) (begun : ℕ) (acts : List Act) → Said start acts → behind_make (behind_make acts) ≡ [] → IsOfRule (first_drop (behind_make acts)) →
-      by_rule (dropped_of_made is_failed begun acts) ≡ all_for (numbers_made begun acts) (first_drop (behind_make acts))
+  -- frames that are made, of which none is dropped
+  more_none : (start : FrameState) (begun : ℕ) (acts : List Act) → Said start acts → AllByRecursion IsNoDrop acts → by_rule (dropped_of_made is_failed begun acts) ≡ []
   unfolding Said waits
-  of_made start begun [] said once rule = refl
-  of_made start begun (act.Make frame ∷ acts) said once rule =
+  more_none start begun [] said none = refl
+  more_none start begun (act.Make frame ∷ acts) said none =
+      let next : ℕ = begun + 1 in
+      let waiting = made_waits start frame acts said in
+      let first : first_drop acts ≡ None = no_first_drop acts none.1 in
+      let more : List (ℕ × Cause) = dropped_of_made is_failed (next + copies (fate acts)) acts in
+      of_one next next acts false waiting (subst IsOfRule (sym first) tt) more
+      ∙ ap (λ o. all_for (next ∷ []) o ++ by_rule more) first ∙ more_none Waiting (next + copies (fate acts)) acts waiting none.1
+  more_none start begun (act.Control port frame ∷ acts) said none = more_none (frame_state_after start (act.Control port frame)) begun acts said none.1
+  more_none start begun (act.Tell told ∷ acts) said none = more_none (frame_state_after start (act.Tell told)) begun acts said none.1
+  more_none start begun (act.Grant pmac amac ∷ acts) said none = more_none (frame_state_after start (act.Grant pmac amac)) begun acts said none.1
+  more_none start begun (act.Free pmac ∷ acts) said none = more_none (frame_state_after start (act.Free pmac)) begun acts said none.1
+  more_none start begun (act.Redirect old new ∷ acts) said none = more_none (frame_state_after start (act.Redirect old new)) begun acts said none.1
+  more_none start begun (act.Pass port frame ∷ acts) said none = more_none (frame_state_after start (act.Pass port frame)) begun acts said none.1
+  more_none start begun (act.Take ∷ acts) said none = more_none (frame_state_after start act.Take) begun acts said none.1
+  more_none start begun (act.Drop cause ∷ acts) said none = absurd none.0
+
+  of_made : (start : FrameState) (begun : ℕ) (acts : List Act) → Said start acts → (behind_make (behind_make acts) ≡ []) ⊎ AllByRecursion IsNoDrop (behind_make acts) →
+      IsOfRule (first_drop (behind_make acts)) → by_rule (dropped_of_made is_failed begun acts) ≡ all_for (numbers_made begun acts) (first_drop (behind_make acts))
+  unfolding Said waits
+  of_made start begun [] said others rule = refl
+  of_made start begun (act.Make frame ∷ acts) said (inl once) rule =
       let next : ℕ = begun + 1 in
       let waiting = made_waits start frame acts said in
       let none = none_made Waiting (next + copies (fate acts)) acts waiting once in
       of_one next next acts false waiting rule (dropped_of_made is_failed (next + copies (fate acts)) acts)
       ∙ ap (λ ds. all_for (next ∷ []) (first_drop acts) ++ by_rule ds) none.0 ∙ append-nil (all_for (next ∷ []) (first_drop acts))
       ∙ sym (ap (λ ns. all_for (next ∷ ns) (first_drop acts)) none.1)
-  of_made start begun (act.Control port frame ∷ acts) said once rule = of_made (frame_state_after start (act.Control port frame)) begun acts said once rule
-  of_made start begun (act.Tell told ∷ acts) said once rule = of_made (frame_state_after start (act.Tell told)) begun acts said once rule
-  of_made start begun (act.Grant pmac amac ∷ acts) said once rule = of_made (frame_state_after start (act.Grant pmac amac)) begun acts said once rule
-  of_made start begun (act.Redirect old new ∷ acts) said once rule = of_made (frame_state_after start (act.Redirect old new)) begun acts said once rule
-  of_made start begun (act.Pass port frame ∷ acts) said once rule = of_made (frame_state_after start (act.Pass port frame)) begun acts said once rule
-  of_made start begun (act.Take ∷ acts) said once rule = of_made (frame_state_after start act.Take) begun acts said once rule
-  of_made start begun (act.Drop cause ∷ acts) said once rule = of_made (frame_state_after start (act.Drop cause)) begun acts said once rule
+  of_made start begun (act.Make frame ∷ acts) said (inr none) rule =
+      more_none start begun (act.Make frame ∷ acts) said (tt, none)
+      ∙ sym (ap (all_for (numbers_made begun (act.Make frame ∷ acts))) (no_first_drop acts none))
+  of_made start begun (act.Control port frame ∷ acts) said others rule = of_made (frame_state_after start (act.Control port frame)) begun acts said others rule
+  of_made start begun (act.Tell told ∷ acts) said others rule = of_made (frame_state_after start (act.Tell told)) begun acts said others rule
+  of_made start begun (act.Grant pmac amac ∷ acts) said others rule = of_made (frame_state_after start (act.Grant pmac amac)) begun acts said others rule
+  of_made start begun (act.Free pmac ∷ acts) said others rule = of_made (frame_state_after start (act.Free pmac)) begun acts said others rule
+  of_made start begun (act.Redirect old new ∷ acts) said others rule = of_made (frame_state_after start (act.Redirect old new)) begun acts said others rule
+  of_made start begun (act.Pass port frame ∷ acts) said others rule = of_made (frame_state_after start (act.Pass port frame)) begun acts said others rule
+  of_made start begun (act.Take ∷ acts) said others rule = of_made (frame_state_after start act.Take) begun acts said others rule
+  of_made start begun (act.Drop cause ∷ acts) said others rule = of_made (frame_state_after start (act.Drop cause)) begun acts said others rule
 
   for_nobody : (cause : Option Cause) → all_for [] cause ≡ []
   for_nobody None = refl
@@ -301,14 +333,14 @@ module _ (is_failed : ℕ → Bool) where
       by_rule (dropped_by_acts is_failed begun frame acts) ≡ all_for (one_or_none frame) cause ++ all_for (made_by_acts begun frame acts) cause_made
   unfolding Said spoken_first waits
   of_acts begun None acts cause cause_made said d rule rule_made =
-      of_made Silent begun acts said d.once (subst IsOfRule (sym d.made) rule_made) ∙ ap (all_for (numbers_made begun acts)) d.made
+      of_made Silent begun acts said d.others (subst IsOfRule (sym d.made) rule_made) ∙ ap (all_for (numbers_made begun acts)) d.made
       ∙ sym (ap (λ xs. xs ++ all_for (numbers_made begun acts) cause_made) (for_nobody cause))
   of_acts begun (Some id) acts cause cause_made said d rule rule_made =
       let later : ℕ = begun + copies (fate acts) in
       of_one begun id acts false said (subst IsOfRule (sym d.came) rule) (dropped_of_made is_failed later acts)
       ∙ ap (λ o. all_for (id ∷ []) o ++ by_rule (dropped_of_made is_failed later acts)) d.came
       ∙ ap (λ xs. all_for (id ∷ []) cause ++ xs)
-      (of_made Waiting later acts said d.once (subst IsOfRule (sym d.made) rule_made) ∙ ap (all_for (numbers_made later acts)) d.made)
+      (of_made Waiting later acts said d.others (subst IsOfRule (sym d.made) rule_made) ∙ ap (all_for (numbers_made later acts)) d.made)
 
 -- ---- what comes at a switch can come
 record IsGood (v : SwitchView) (c : Coming) : Type 0 where

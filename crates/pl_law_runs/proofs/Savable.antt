@@ -166,6 +166,7 @@ module _ (plan : Plan) where
           (λ n is. subst (λ (p : Plan). IsHost p n) g.world.same (found_within (λ host. same_mac host.mac amac) d.world.plan.hosts n is)) g.world;
       late = g.late;
     }
+    act_saves d k (act.Free pmac) fits g = record { world = notes d.world (Freed pmac) (record { named = tt; carried = tt }) g.world; late = g.late }
     act_saves d k (act.Make frame) fits g = makes d frame fits g
     act_saves d k (act.Redirect old new) fits g = redirects d old new d.speech g
     act_saves d k (act.Pass port frame) fits g = passes d port frame d.speech g

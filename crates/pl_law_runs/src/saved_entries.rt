@@ -13,7 +13,8 @@ ghost use Rattle.pl_world.specs.Worlds.{WorldView};
 use pl_node::{HostLogic, ManagerLogic, SwitchLogic};
 
 /// A step whose world has its frames in order writes only entries that can be saved: each host and each
-/// switch that they name is one of the wiring, and a frame that arrives is no longer than a frame may be.
+/// switch that they name is one of the wiring, and a frame that is sent, made or that arrives is as long as a
+/// frame may be.
 pub fn each_step_writes_entries_that_can_be_saved<S: SwitchLogic, M: ManagerLogic, H: HostLogic>()
     ensures { (old : WorldView) (event : Event) (new : WorldView) → IsCounted old → refusal old event ≡ None →
         WorldStep S.rule M.rule H.rule old event new → All (IsSavable old.plan) old.journal → All (IsSavable old.plan) new.journal }

@@ -33,6 +33,7 @@ no_wish (tell.Place place) is = refl
 no_wish (tell.Link neighbour usable) is = refl
 no_wish tell.PodWanted is = absurd is
 no_wish (tell.Learned pmac amac ip) is = refl
+no_wish (tell.Aged pmac number) is = refl
 no_wish (tell.Query asker asker_ip ip) is = refl
 no_wish (tell.Members group any) is = refl
 
@@ -42,6 +43,7 @@ no_number (say.Answer asker asker_ip ip pmac) is = refl
 no_number (say.Flood asker asker_ip ip) is = refl
 no_number (say.Avoid list) is = refl
 no_number (say.Invalidate old new number ip) is = refl
+no_number (say.Release address) is = refl
 no_number (say.Tree group part) is = refl
 
 module _ (w : WorldView) (placing : ArePlacing w) where

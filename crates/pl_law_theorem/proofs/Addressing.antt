@@ -19,23 +19,27 @@ use Rattle.pl_journal.specs.declared.entry.Entry.TheVariants.{Granted}
 use Rattle.pl_journal.specs.Lossy.{IsNewer, mac_of_host}
 use Rattle.pl_journal.specs.Places.{EdgePort, are_alike, at_port, holder, is_live, live_holder, number, registered, same_pod_and_position, edge_port}
 use Rattle.pl_journal.proofs.Exports.{not_held_not_live, not_held_nowhere}
+use Rattle.pl_node.specs.AddressUses.{is_held}
+use Rattle.pl_node.specs.declared.address_use.AddressUse.{AddressUse}
+use Rattle.pl_node.specs.declared.address_use.AddressUse.TheVariants.{Free, InUse, Resting, Trapped}
 use Rattle.pl_node.specs.declared.switch_records.Grant.{Grant}
 use Rattle.pl_node.specs.declared.trap.Trap.{Trap}
 use Rattle.pl_node.specs.ManagerViews.{Registration}
 use Rattle.pl_node.specs.SwitchViews.{SwitchView}
 use Rattle.pl_switch_rule.specs.Delivering.{grant_trap, trap_for}
-use Rattle.pl_switch_rule.specs.Granting.{granted, is_local}
-use Rattle.pl_switch_rule.proofs.Exports.{granted_parts}
+use Rattle.pl_switch_rule.specs.Granting.{granted, held_here, is_local, unless_free}
+use Rattle.pl_switch_rule.proofs.Exports.{free_one, granted_parts, held_one, held_parts}
 use Rattle.pl_world.specs.Changes.{host_of}
 use Rattle.pl_world.specs.Worlds.{WorldView}
 use Rattle.pl_law_control_plane.specs.ControlPlanes.{control_plane, no_switch}
+use Rattle.pl_law_phases.specs.Tenures.{is_held as is_held_there}
 use Rattle.pl_law_addresses.specs.Registries.{registry_of}
 use Rattle.pl_law_addresses.proofs.Exports.{first_passes, granted_here, known_same, trap_leads}
 use Rattle.pl_law_invariant.specs.ControlInvariant.{ControlInvariant}
 use Rattle.pl_law_ledger.specs.Ledgers.{IsBacked, IsGrantedThere, ledger}
 use Rattle.pl_law_ledger.proofs.Exports.{fits_there, grounds, held_somewhere, in_bounds, IsAlike, IsEnteredAll, of_edge, same_says, Says, says}
 use Rattle.pl_law_flights.specs.OnTheWay.{history_of}
-use Rattle.pl_law_flights.specs.Standing.{IsGranted, IsNextAddress, KnowsAddresses, TrapLeadsOn}
+use Rattle.pl_law_flights.specs.Standing.{IsGranted, IsNextAddress, KnowsAddresses, TrapLeadsOn, WasGranted}
 use Rattle.pl_law_flights.proofs.Exports.{host_unicast}
 
 -- ---- addresses of hosts
@@ -63,6 +67,13 @@ pmac_unicast x fits small =
     let b = fits.port in
     let c = fits.vmid in
     ne_eqb (slice_index (mac_of x).0 0 % 2) 1 (λ odd. absurd (omega (arith, a, b, c, small, odd)))
+
+-- ---- an address that is not free is somebody's
+pub is_as_there : (h : AddressUse) → is_held h ≡ is_held_there (Some h)
+is_as_there (InUse idle) = refl
+is_as_there (Trapped trap age) = refl
+is_as_there (Resting number) = refl
+is_as_there Free = refl
 
 -- ---- entries
 -- an address of this number was granted at a port
@@ -122,14 +133,22 @@ module _ (w : WorldView) (kept : ControlInvariant w) (entered : IsEnteredAll w) 
   own_at s v x found local fits = pmac_unicast x fits (in_bounds w kept entered.asking s v x found local).pod
 
   -- ---- what a switch granted
-  granted_so : (t : ℕ) (v : SwitchView) → slice_get w.switches t ≡ Some v → (x : Pmac) (g : Grant) → granted v x ≡ Some g → IsGranted w.plan (history_of (reverse w.journal)) t x g
-  granted_so t v found x g is =
+  granted_then : (t : ℕ) (v : SwitchView) → slice_get w.switches t ≡ Some v → (x : Pmac) (g : Grant) → granted v x ≡ Some g → WasGranted (history_of (reverse w.journal)) t x
+  granted_then t v found x g is =
+      let e = entered.ledger.grants t v x g found is in
+      let fits = fits_at t v x g found is in
+      record { there = same_edge_ports (pmac_number x) ∙ e.there; fits = fits; own = own_at t v x found (granted_parts v x g is).0 fits }
+
+  -- and what is not free
+  granted_so : (t : ℕ) (v : SwitchView) → slice_get w.switches t ≡ Some v → (x : Pmac) (g : Grant) → held_here v x ≡ Some g → IsGranted w.plan (history_of (reverse w.journal)) t x g
+  granted_so t v found x g held =
+      let is = held_parts v x g held in
       let e = entered.ledger.grants t v x g found is in
       let mac = host_at w.plan g.amac e.host e.of_mac in
       let fits = fits_at t v x g found is in
       record {
         host = e.host;
-        held = holds_live (pmac_number x) e.host e.live e.held;
+        held = holds_live (pmac_number x) e.host (e.live ∙ held_one v x g held) e.held;
         there = same_edge_ports (pmac_number x) ∙ e.there;
         mac = mac;
         six = six_bytes w.plan kept.counted.formed.plan g.amac e.host mac;
@@ -154,11 +173,19 @@ module _ (w : WorldView) (kept : ControlInvariant w) (entered : IsEnteredAll w) 
           let view : v ≡ at.there.view = same_Some v at.there.view (sym found ∙ ap (slice_get w.switches) one ∙ at.there.found) in
           absurd (none-some at.there.grant (sym none ∙ ap (λ (u : SwitchView). granted u x) view ∙ ap (λ y. granted at.there.view y) (sym same) ∙ at.there.is))
 
+  -- and what is free, or was not granted, is not live
+  dead_here : (t : ℕ) (v : SwitchView) → slice_get w.switches t ≡ Some v → (x : Pmac) → PmacFits x → is_local v x ≡ true → held_here v x ≡ None → is_live (reverse w.journal) (pmac_number x) ≡ false
+  dead_here t v found x fits local none = by (granted v x) refl none
+    where
+      by : (o : Option Grant) → granted v x ≡ o → unless_free o ≡ None → is_live (reverse w.journal) (pmac_number x) ≡ false
+      by None is free = not_held_not_live (reverse w.journal) (pmac_number x) (held_by_none t v found x fits local is)
+      by (Some g) is free = same_live (pmac_number x) ∙ (entered.ledger.grants t v x g found is).live ∙ free_one g free
+
   -- so it has no holder that is live
-  held_live_by_none : (t : ℕ) (v : SwitchView) → slice_get w.switches t ≡ Some v → (x : Pmac) → PmacFits x → is_local v x ≡ true → granted v x ≡ None → live_holder (reverse w.journal) (pmac_number x) ≡ None
+  held_live_by_none : (t : ℕ) (v : SwitchView) → slice_get w.switches t ≡ Some v → (x : Pmac) → PmacFits x → is_local v x ≡ true → held_here v x ≡ None → live_holder (reverse w.journal) (pmac_number x) ≡ None
   held_live_by_none t v found x fits local none =
       let past : List Entry = reverse w.journal in
-      cond-false (is_live past (pmac_number x)) (holder past (pmac_number x)) None (not_held_not_live past (pmac_number x) (held_by_none t v found x fits local none))
+      cond-false (is_live past (pmac_number x)) (holder past (pmac_number x)) None (dead_here t v found x fits local none)
 
   -- who holds a registered address
   record HeldBy (x : Pmac) (mac : Mac) : Type 0 where
@@ -178,13 +205,13 @@ module _ (w : WorldView) (kept : ControlInvariant w) (entered : IsEnteredAll w) 
       record {
         host = e.host;
         of_mac = ap (host_of w.plan) (sym here.to) ∙ e.of_mac;
-        held = holds_live (pmac_number x) e.host e.live e.held;
+        held = holds_live (pmac_number x) e.host (e.live ∙ is_as_there here.grant.held ∙ here.held) e.held;
         fits = fits;
         unicast = own_at home.switch home.view x home.found home.at fits;
       }
 
   number_so : (x : Pmac) (reg : Registration) → PmacFits x → (registry_of w.manager.learnt).at x ≡ Some reg → number (reverse w.journal) (pmac_number x) ≡ Some reg.number
-  number_so x reg fits is = same_numbers (pmac_number x) ∙ entered.ledger.numbers x fits ∙ ap (option_map (λ (r : Registration). r.number)) is
+  number_so x reg fits is = same_numbers (pmac_number x) ∙ entered.ledger.numbers x reg.number fits (ap (option_map (λ (r : Registration). r.number)) is)
 
   leads_so : (t : ℕ) (v : SwitchView) → slice_get w.switches t ≡ Some v → (x : Pmac) (trap : Trap) → trap_for v x ≡ Some trap → TrapLeadsOn (history_of (reverse w.journal)) x trap
   leads_so t v found x trap is = by (granted v x) refl is
@@ -221,6 +248,7 @@ module _ (w : WorldView) (kept : ControlInvariant w) (entered : IsEnteredAll w) 
   pub knows_addresses : (t : ℕ) (v : SwitchView) → slice_get w.switches t ≡ Some v → KnowsAddresses w.plan (history_of (reverse w.journal)) t v
   unfolding view_at
   knows_addresses t v found = record {
+    granted_there = granted_then t v found;
     granted_here = granted_so t v found;
     not_granted = held_live_by_none t v found;
     trapped = leads_so t v found;
@@ -261,7 +289,13 @@ module _ (w : WorldView) (kept : ControlInvariant w) (entered : IsEnteredAll w) 
       alike_entry (Granted y h e p) there = alike_by y e.0 p there
       alike_entry entry there = tt
 
-  pub is_next : (t : ℕ) (v : SwitchView) → slice_get w.switches t ≡ Some v → (x : Pmac) → is_local v x ≡ true → granted v x ≡ None → x.port < v.k → v.k ≤ 24 → x.vmid ≤ 65535 →
+  -- one that was granted before, and is free, was granted at its port
+  given_here : (t : ℕ) (v : SwitchView) → slice_get w.switches t ≡ Some v → (x : Pmac) → PmacFits x → is_local v x ≡ true → (o : Option Grant) → granted v x ≡ o → (at : EdgePort) →
+      edge_port (reverse w.journal) (pmac_number x) ≡ Some at → at ≡ at_port t x.port
+  given_here t v found x fits local None none at is = absurd (not_held_nowhere (reverse w.journal) (pmac_number x) at (held_by_none t v found x fits local none) is)
+  given_here t v found x fits local (Some g) granted_it at is = same_Some at (at_port t x.port) (sym is ∙ (granted_then t v found x g granted_it).there)
+
+  pub is_next : (t : ℕ) (v : SwitchView) → slice_get w.switches t ≡ Some v → (x : Pmac) → is_local v x ≡ true → held_here v x ≡ None → x.port < v.k → v.k ≤ 24 → x.vmid ≤ 65535 →
       IsNextAddress (reverse w.journal) t x
   is_next t v found x local none within few last =
       let low = in_bounds w kept entered.asking t v x found local in
@@ -269,8 +303,8 @@ module _ (w : WorldView) (kept : ControlInvariant w) (entered : IsEnteredAll w) 
       let position = low.position in
       let fits : PmacFits x = record { pod = omega (arith, pod); position = omega (arith, position); port = omega (arith, within, few); vmid = omega (arith, last) } in
       record {
-        fresh = not_held_not_live (reverse w.journal) (pmac_number x) (held_by_none t v found x fits local none);
-        again = λ at is. absurd (not_held_nowhere (reverse w.journal) (pmac_number x) at (held_by_none t v found x fits local none) is);
+        fresh = dead_here t v found x fits local none;
+        again = λ at is. given_here t v found x fits local (granted v x) refl at is;
         edge = ap (λ (f : Says). f.of_edge x t) (sym (same_says w.plan (reverse w.journal))) ∙ of_edge (ledger (reverse w.journal)) x t (alike_so t v found x local);
         fits = fits;
         own = pmac_unicast x fits low.pod;

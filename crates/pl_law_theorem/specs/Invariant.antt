@@ -1,13 +1,14 @@
 -- The invariant of the network: what holds where a fabric begins, and after each event of each of its runs.
-use Rattle.std.specs.Prelude.{◌≡◌, ◌<◌, ◌≤◌, ℕ, List, Some, length, map, reverse, slice_get}
+use Rattle.std.specs.Prelude.{◌≡◌, ◌<◌, ◌≤◌, ℕ, List, Some, length, reverse, slice_get}
+use Rattle.pl_pmac.specs.declared.pmac.Pmac.{Pmac}
 use Rattle.pl_journal.specs.Lossy.{GoodTrail, Run}
 use Rattle.pl_node.specs.ManagerDuties.{with_number}
-use Rattle.pl_node.specs.ManagerViews.{pods_given, registry}
+use Rattle.pl_node.specs.ManagerViews.{Registration, pods_given, registration}
 use Rattle.pl_node.specs.SwitchViews.{SwitchView}
 use Rattle.pl_world.specs.Worlds.{WorldView}
 use Rattle.pl_fabric.specs.Settled.{IsSettled}
 use Rattle.pl_law_control_plane.specs.ControlPlanes.{ControlPlane, control_plane}
-use Rattle.pl_law_records.specs.Entries.{place_written, registrations}
+use Rattle.pl_law_records.specs.Entries.{last_registration, place_written}
 use Rattle.pl_law_invariant.specs.ControlInvariant.{ControlInvariant}
 use Rattle.pl_law_placing.specs.Placing.{ArePlacing}
 use Rattle.pl_law_records.specs.Records.{AreCurrent, HaveOrders, HaveReported, HaveToldLinks, HaveToldNeighbours, NoReportWaits, LinksAreCurrent, LinksAreOfNeighbours}
@@ -79,9 +80,9 @@ pub record NetworkInvariant (w : WorldView) : Type 0 where
   pub journaled : IsJournaled w
   pub run : Run w.plan w.journal
   pub trails : GoodTrail w.plan w.journal
-  -- its last entry of a switch's place is what the switch knows, and its registrations are those of the manager, in order
+  -- its last entry of a switch's place is what the switch knows, and a registered address has the number that it says last
   pub written : (s : ℕ) (v : SwitchView) → slice_get w.switches s ≡ Some v → place_written (reverse w.journal) s ≡ v.place
-  pub numbered : reverse (registrations w.journal) ≡ map with_number (registry w.manager.learnt)
+  pub numbered : (x : Pmac) (r : Registration) → registration w.manager.learnt x ≡ Some r → last_registration w.journal x ≡ Some (with_number r)
   -- where the fabric is settled, each edge switch that received a frame of a host, in a pod that lacks no link, knows its whole place
   pub placed : IsSettled w → w.steps < 4294967295 → (pod : ℕ) → IsWholePod w pod → ReceiversArePlaced w pod
   -- where nothing waits, each host is registered that its edge switch could learn of

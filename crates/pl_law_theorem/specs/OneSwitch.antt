@@ -1,5 +1,6 @@
 -- What a fabric of switches, a manager and hosts is at each moment of each of its runs: one lossy switch.
-use Rattle.std.specs.Prelude.{◌≡◌, ℕ, ◌≤◌, Contains, List}
+use Rattle.std.specs.Prelude.{◌≡◌, ℕ, ◌≤◌, ◌<◌, Contains, List}
+use Rattle.pl_pmac.specs.declared.pmac.Pmac.{Pmac}
 use Rattle.pl_wiring.specs.declared.label.SwitchNo.{SwitchNo}
 use Rattle.pl_journal.specs.declared.cause.Cause.{Cause}
 use Rattle.pl_journal.specs.declared.entry.Entry.TheVariants.{Arrived, Dropped, Taken}
@@ -13,6 +14,9 @@ use Rattle.pl_world.specs.Booting.{booted}
 use Rattle.pl_world.specs.Changes.{host_no}
 use Rattle.pl_world.specs.Runs.{Moment, WorldRun}
 use Rattle.pl_world.specs.Worlds.{WorldView}
+use Rattle.pl_law_addresses.specs.Addressed.{IsLiveNowhere}
+use Rattle.pl_law_addresses.specs.GrantedOnce.{times_freed, times_granted}
+use Rattle.pl_law_addresses.specs.Standing.{StandsForNothing}
 use Rattle.pl_law_flights.specs.OnTheWay.{IsJournaled}
 use Rattle.pl_law_arrival.specs.SureFrames.{IsSure}
 use Rattle.pl_law_theorem.specs.Invariant.{NetworkInvariant}
@@ -37,6 +41,14 @@ HoldsAtEachMoment switch manager host w =
     (limits : Limits) (before after : List Moment) (old : WorldView) → WorldRun switch manager host (booted w.plan limits) before old
     → WorldRun switch manager host old after w → NetworkInvariant old
 
+-- Of two moments of a run that leads to this world: an address that was granted between them, and was not freed between them, was nobody's at the
+-- first. No trap stood from it or to it, no message to an edge switch spoke of it, and the fabric manager did not know it.
+abbrev pub GrantsStandForNothing : SwitchRule → ManagerRule → HostRule → WorldView → Type 0
+GrantsStandForNothing switch manager host w =
+    (limits : Limits) (before between after : List Moment) (old later : WorldView) (x : Pmac) → WorldRun switch manager host (booted w.plan limits) before old
+    → WorldRun switch manager host old between later → WorldRun switch manager host later after w → times_granted x old.journal < times_granted x later.journal
+    → times_freed x later.journal ≡ times_freed x old.journal → IsLiveNowhere old.switches x × StandsForNothing old x
+
 -- A world to which a run of the fabric has led from its beginning.
 pub record IsOneSwitch (switch : SwitchRule) (manager : ManagerRule) (host : HostRule) (w : WorldView) : Type 0 where
   -- the journal is a run of one lossy switch: a frame arrives once, unaltered, where its address leads, or ends by its named cause
@@ -48,5 +60,7 @@ pub record IsOneSwitch (switch : SwitchRule) (manager : ManagerRule) (host : Hos
   -- what nodes know and what waits between them is in order, now and at each moment before
   pub invariant : NetworkInvariant w
   pub moments : HoldsAtEachMoment switch manager host w
+  -- an address is granted, also again, where nothing stands for it
+  pub given : GrantsStandForNothing switch manager host w
   -- while the fabric stays settled, a frame between registered hosts that a live path joins arrives, if it ends
   pub sure : SureFramesArrive switch manager host w

@@ -4,6 +4,7 @@ ghost use Rattle.pl_law_theorem.specs.OneSwitch.{IsOneSwitch, SureFramesArrive};
 use crate::invariant::lawful_logic_keeps_the_invariant;
 use pl_host_rule::LawfulHost;
 use pl_law_arrival::{a_sure_frame_has_no_other_end, a_sure_frame_that_ends_has_arrived};
+use pl_law_invariant::lawful_logic_grants_no_address_while_anything_stands_for_it;
 use pl_law_runs::each_run_keeps_the_wiring;
 use pl_manager_rule::LawfulManager;
 use pl_switch_rule::LooseSwitch;
@@ -24,5 +25,6 @@ pub fn lawful_logic_is_one_switch<S: LooseSwitch, M: LawfulManager, H: LawfulHos
 {
     lawful_logic_keeps_the_invariant::<S, M, H>();
     sure_frames_arrive::<S, M, H>();
+    lawful_logic_grants_no_address_while_anything_stands_for_it::<S, M, H>();
     each_run_keeps_the_wiring::<S, M, H>();
 }

@@ -6,21 +6,22 @@ use Rattle.pl_frame.specs.declared.address.SwitchId.{SwitchId}
 use Rattle.pl_node.specs.declared.acts.Act.{Act}
 use Rattle.pl_node.specs.declared.acts.Act.TheVariants.{Control, Drop}
 use Rattle.pl_node.specs.declared.messages.ToSwitch.{ToSwitch}
-use Rattle.pl_node.specs.declared.messages.ToSwitch.TheVariants.{Answer, Avoid, Flood, Invalidate, Pod, Tree}
+use Rattle.pl_node.specs.declared.messages.ToSwitch.TheVariants.{Answer, Avoid, Flood, Invalidate, Pod, Release, Tree}
 use Rattle.pl_node.specs.PortRecords.{is_open_to_hosts, port_of, with_port}
 use Rattle.pl_node.specs.SwitchViews.{SwitchView}
 use Rattle.pl_journal.specs.declared.cause.Cause.TheVariants.{NotPlaced}
 use Rattle.pl_layouts.specs.declared.place.Place.{Place}
 use Rattle.pl_layouts.specs.Placement.{is_known}
 use Rattle.pl_steps.specs.Steps.{SwitchStep, does, rests, ◌▹◌}
+use Rattle.pl_switch_rule.specs.Aging.{ages, with_older}
 use Rattle.pl_switch_rule.specs.Forwarding.{Choice}
-use Rattle.pl_switch_rule.specs.Granting.{granted, is_granted, learns_source}
+use Rattle.pl_switch_rule.specs.Granting.{granted, held_here, is_granted, learns_source}
 use Rattle.pl_switch_rule.specs.Intake.{comes_from_host, takes_in_or_spent}
 use Rattle.pl_switch_rule.specs.Levels.{becomes_edge, changes_to, pod_told_before, finds_host, with_pod}
 use Rattle.pl_switch_rule.specs.Messages.{answer_frame, flood_frame, hears_manager, takes_pod, hears_pod}
 use Rattle.pl_switch_rule.specs.SwitchRule.{comes_from_switch, data_comes}
 use Rattle.pl_switch_rule.specs.Telling.{changes_told}
-use Rattle.pl_switch_rule.proofs.Exports.{answers_stay, ChangeActs, changes_acts, changes_learn, data_acts, floods_stay, host_frame_learns, HostActs, invalidates_learns, LearnsHosts, manager_acts, sources_are_of_hosts, stays_learns, switch_frame_stays, told_acts}
+use Rattle.pl_switch_rule.proofs.Exports.{ages_acts, ages_learn, answers_stay, ChangeActs, changes_acts, changes_learn, data_acts, floods_stay, frees_learn, host_frame_learns, HostActs, idle_acts, invalidates_learns, IsAnyPort, LearnsHosts, manager_acts, sources_are_of_hosts, stays_learns, switch_frame_stays, told_acts}
 
 -- what a switch has to do with votes as one that proposes
 pub record Stance : Type 0 where
@@ -64,6 +65,8 @@ unsaid_hosts = record {
   frames = record { passed = λ port frame way. tt; redirected = λ old new. tt; dropped = λ cause. tt; taken = tt; asked = λ asker asker_ip ip. tt };
   grants = record { granted = λ address amac. tt; learnt = λ address amac ip. tt };
   made = λ frame. tt;
+  aged = λ address number. tt;
+  freed = λ address. tt;
 }
 
 unsaid_change : (place : Place) → ChangeActs place IsUnsaid
@@ -98,6 +101,12 @@ changes old new =
     let end : SwitchView = (changes_to old new).view in
     aside new (changes_to old new) (hosts_keep new end (sources_are_of_hosts new end (changes_learn old new)))
     (changes_acts IsUnsaid unsaid_hosts.grants old new (unsaid_change new.place))
+
+-- Addresses age.
+pub aside_ages : (v : SwitchView) → LeavesVotes v (ages v)
+aside_ages v =
+    votes_left v (ages v) (aside v (ages v) (hosts_keep v (ages v).view (ages_learn v))
+    (ages_acts IsUnsaid (λ x number. tt) v (idle_acts IsUnsaid IsAnyPort (λ port frame way. tt) (with_older v) (λ x grant is. tt) (λ x i. tt))))
 
 -- A data frame comes.
 
@@ -145,7 +154,9 @@ manager_keeps choose v (Answer asker asker_ip ip pmac) other =
     stays_keep v _ (answers_stay choose v (is_granted v asker) (answer_frame asker asker_ip ip pmac))
 manager_keeps choose v (Flood asker asker_ip ip) other = stays_keep v _ (floods_stay v (is_granted v asker) (flood_frame asker asker_ip ip))
 manager_keeps choose v (Invalidate old new number ip) other =
-    hosts_keep v _ (invalidates_learns v old (record { new = new; number = number; ip = ip }) (granted v old))
+    hosts_keep v _ (invalidates_learns v old (record { new = new; number = number; ip = ip }) (held_here v old))
+manager_keeps choose v (Release address) other =
+    hosts_keep v _ (sources_are_of_hosts v _ (frees_learn v address (granted v address)))
 
 -- a message of the manager that gives no pod
 pub aside_manager : (choose : Choice) (v : SwitchView) (says : ToSwitch) → ((pod : ℕ) → says ≡ Pod pod → ⊥) → LeavesVotesAndPlace v (hears_manager choose v says)
@@ -166,3 +177,4 @@ manager_leaves_votes choose v (Tree group part) = votes_left v _ (aside_manager 
 manager_leaves_votes choose v (Answer asker asker_ip ip pmac) = votes_left v _ (aside_manager choose v (Answer asker asker_ip ip pmac) (λ pod is. absurd (cc is)))
 manager_leaves_votes choose v (Flood asker asker_ip ip) = votes_left v _ (aside_manager choose v (Flood asker asker_ip ip) (λ pod is. absurd (cc is)))
 manager_leaves_votes choose v (Invalidate old new number ip) = votes_left v _ (aside_manager choose v (Invalidate old new number ip) (λ pod is. absurd (cc is)))
+manager_leaves_votes choose v (Release address) = votes_left v _ (aside_manager choose v (Release address) (λ pod is. absurd (cc is)))

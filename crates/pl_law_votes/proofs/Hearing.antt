@@ -1,5 +1,5 @@
 -- Each step of a switch, for the votes that it has a part in: as an edge switch, and as an aggregation switch.
-use Rattle.std.proofs.Common.{◌≡◌, ℕ, ◌≤◌, Bool, true, false, if◌then◌else◌, List, [], ◌∷◌, ◌++◌, length, get_or, Option, None, Result, Ok, Err, refl, sym, ◌∙◌, ap, subst, inl, inr}
+use Rattle.std.proofs.Common.{◌≡◌, ℕ, ◌≤◌, Bool, true, false, if◌then◌else◌, List, [], ◌∷◌, ◌++◌, length, get_or, Option, None, Result, Ok, Err, refl, sym, ◌∙◌, ap, subst, subst₂, append-nil, inl, inr}
 use Rattle.std.specs.List.{AllByRecursion}
 use Rattle.std.proofs.lemmas.Bool.{cases_eq}
 use Rattle.pl_frame.specs.declared.address.SwitchId.{SwitchId}
@@ -16,8 +16,9 @@ use Rattle.pl_node.specs.declared.acts.Act.{Act}
 use Rattle.pl_node.specs.declared.switch_records.Hold.{Hold}
 use Rattle.pl_node.specs.SwitchFacts.{hold_at, is_answered}
 use Rattle.pl_node.specs.SwitchViews.{SwitchView}
-use Rattle.pl_steps.specs.Steps.{SwitchStep, rests}
-use Rattle.pl_switch_rule.specs.Announcing.{ticks}
+use Rattle.pl_steps.specs.Steps.{SwitchStep, rests, ◌▹◌}
+use Rattle.pl_switch_rule.specs.Aging.{ages}
+use Rattle.pl_switch_rule.specs.Announcing.{tells_neighbours, ticks}
 use Rattle.pl_switch_rule.specs.Levels.{after_message, changes_to, hears_message}
 use Rattle.pl_switch_rule.specs.Positions.{after_vote, answers_proposal, frees_others, half, hears_proposal}
 use Rattle.pl_switch_rule.specs.SwitchRule.{hears_control}
@@ -25,10 +26,10 @@ use Rattle.pl_law_control_plane.specs.ControlPlanes.{messages_of, sends, unless}
 use Rattle.pl_law_votes.specs.Counting.{IsCounting, LeadsToAggregation}
 use Rattle.pl_law_votes.specs.Pairs.{IsGoodPair, Voter, voter_of}
 use Rattle.pl_law_votes.proofs.AggregationTurns.{HoldsIds, answer_to, down_none, down_tick, down_unless, hears_other_message, hears_other_proposal, hears_own_message, hears_own_proposal, message_ids, proposal_ids, proposal_stance, same_stance, vote_elsewhere, vote_here, vote_said}
-use Rattle.pl_law_votes.proofs.Aside.{LeavesVotes, changes, stance}
+use Rattle.pl_law_votes.proofs.Aside.{LeavesVotes, aside_ages, changes, stance}
 use Rattle.pl_law_votes.proofs.EdgeTurns.{counts_votes, same_counting, same_voter, up_none, up_tick, up_unless, up_vote, vote_holds, votes_here, votes_there}
 use Rattle.pl_law_votes.proofs.PairMoves.{answer_gone, head_gone}
-use Rattle.pl_law_votes.proofs.Messages.{SaysPlace, SaysProposal, TickSays, sends_none}
+use Rattle.pl_law_votes.proofs.Messages.{SaysPlace, SaysProposal, TickSays, sends_append, sends_none}
 
 abbrev pub AreOf : SwitchId → List Control → Type 0
 AreOf id said = AllByRecursion (λ c. sender_of c ≡ id) said
@@ -105,16 +106,41 @@ named_tick v said says = subst (AreOf v.id) (sym says.split) (both says.first sa
     asks xs (inl none) = subst (AreOf v.id) (sym none) tt
     asks xs (inr some) = subst (AreOf v.id) (sym some.1) (refl, tt)
 
-pub turn_tick : (v : SwitchView) → 1 ≤ v.attempt → ((port : ℕ) → TickSays v (sends port (ticks v).acts)) → IsTurn v (ticks v)
-turn_tick v begun says = record {
+turn_told : (v : SwitchView) → 1 ≤ v.attempt → ((port : ℕ) → TickSays v (sends port (tells_neighbours v).acts)) → IsTurn v (tells_neighbours v)
+turn_told v begun says = record {
   edge = λ port holds up down failed g.
-      up_unless (voter_of v port) holds down (sends port (ticks v).acts) failed (up_tick v port holds down (sends port (ticks v).acts) begun (says port)) up g;
+      up_unless (voter_of v port) holds down (sends port (tells_neighbours v).acts) failed (up_tick v port holds down (sends port (tells_neighbours v).acts) begun (says port)) up g;
   aggregation = λ e port up down failed g.
-      down_unless e (hold_at v) up (sends port (ticks v).acts) failed (down_tick v e (hold_at v) up (sends port (ticks v).acts) (says port)) down g;
-  named = λ port. named_tick v (sends port (ticks v).acts) (says port);
+      down_unless e (hold_at v) up (sends port (tells_neighbours v).acts) failed (down_tick v e (hold_at v) up (sends port (tells_neighbours v).acts) (says port)) down g;
+  named = λ port. named_tick v (sends port (tells_neighbours v).acts) (says port);
   ids = λ ids. ids;
-  counting = λ plan pod n counting. same_counting plan pod n v (ticks v).view refl counting;
+  counting = λ plan pod n counting. same_counting plan pod n v (tells_neighbours v).view refl counting;
 }
+
+-- a turn that goes on aside
+turn_then : (v : SwitchView) (s : SwitchStep) (next : SwitchView → SwitchStep) → IsTurn v s → LeavesVotes s.view (next s.view) → IsTurn v (s ▹ next)
+turn_then v s next turn aside = record {
+  edge = λ port holds up down failed g.
+      subst₂ (λ (e : Voter) said. IsGoodPair e holds (up ++ unless failed said) down) (sym (same_voter s.view w aside.same port)) (sym (said port))
+      (turn.edge port holds up down failed g);
+  aggregation = λ e port up down failed g.
+      subst₂ (λ (hs : List (Option Hold)) said. IsGoodPair e (λ q. get_or hs q None) up (down ++ unless failed said)) (sym aside.holds) (sym (said port))
+      (turn.aggregation e port up down failed g);
+  named = λ port. subst (AreOf v.id) (sym (said port)) (turn.named port);
+  ids = λ ids. ids_same s.view w aside.holds (turn.ids ids);
+  counting = λ plan pod n counting. same_counting plan pod n s.view w aside.same (turn.counting plan pod n counting);
+}
+  where
+    w : SwitchView
+    w = (next s.view).view
+
+    said : (port : ℕ) → sends port (s.acts ++ (next s.view).acts) ≡ sends port s.acts
+    said port =
+        sends_append port s.acts (next s.view).acts ∙ ap (λ zs. sends port s.acts ++ zs) (sends_none port (next s.view).acts aside.unsaid)
+        ∙ append-nil (sends port s.acts)
+
+pub turn_tick : (v : SwitchView) → 1 ≤ v.attempt → ((port : ℕ) → TickSays v (sends port (tells_neighbours v).acts)) → IsTurn v (ticks v)
+turn_tick v begun says = turn_then v (tells_neighbours v) ages (turn_told v begun says) (aside_ages (tells_neighbours v).view)
 
 -- Messages that are ignored.
 

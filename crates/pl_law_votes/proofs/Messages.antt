@@ -17,12 +17,13 @@ use Rattle.pl_node.specs.PortRecords.{heard_id, id_at, is_usable_to, ports_where
 use Rattle.pl_node.specs.SwitchFacts.{has_granted}
 use Rattle.pl_node.specs.SwitchViews.{SwitchView}
 use Rattle.pl_node.proofs.Exports.{direction_low, heard_aged}
-use Rattle.pl_switch_rule.specs.Announcing.{announcements, announces_at, proposal, proposes_at, ticks, with_aged_ports}
+use Rattle.pl_switch_rule.specs.Aging.{ages}
+use Rattle.pl_switch_rule.specs.Announcing.{announcements, announces_at, proposal, proposes_at, tells_neighbours, ticks, with_aged_ports}
 use Rattle.pl_switch_rule.specs.Telling.{changes_told}
 use Rattle.pl_law_control_plane.specs.ControlPlanes.{message_in, messages_of, sends, sent_by}
 use Rattle.pl_law_control_plane.specs.Discovery.{CanBeTold, CanPropose}
 use Rattle.pl_law_control_plane.proofs.Exports.{ldm_writable, proposal_writable, written_is_read}
-use Rattle.pl_law_votes.proofs.Aside.{AreUnsaid, unsaid_told}
+use Rattle.pl_law_votes.proofs.Aside.{AreUnsaid, aside_ages, unsaid_told}
 
 pub sends_append : (port : ℕ) (xs ys : List Act) → sends port (xs ++ ys) ≡ sends port xs ++ sends port ys
 sends_append port [] ys = refl
@@ -118,9 +119,9 @@ module _ (v : SwitchView) (port : ℕ) (is : IsWritableId v.id) (can : CanBeTold
   tick_proposes : messages_of (message_in (proposal w)) ≡ Proposal v.id (record { attempt = v.attempt; position = v.proposed }) ∷ []
   tick_proposes = says_written (Proposal v.id (record { attempt = v.attempt; position = v.proposed })) (proposal_writable v.id v.attempt v.proposed is able)
 
-  pub tick_says : TickSays v (sends port (ticks v).acts)
+  pub told_says : TickSays v (sends port (tells_neighbours v).acts)
   unfolding told
-  tick_says = record {
+  told_says = record {
     first = sends port firsts;
     second = sends port seconds;
     split = sends_append port (changes_told v w) (announcements w) ∙ ap (λ zs. zs ++ sends port (announcements w)) (sends_none port (changes_told v w) (unsaid_told v w))
@@ -141,3 +142,11 @@ module _ (v : SwitchView) (port : ℕ) (is : IsWritableId v.id) (can : CanBeTold
           let b = and_parts (is_known v.place.level 0 && is_none v.place.position) (is_usable_to w 1 port) a.0 in
           let c = and_parts (is_known v.place.level 0) (is_none v.place.position) b.0 in
           is_none_is v.place.position c.1
+
+  -- and nothing more, where addresses age
+  pub tick_says : TickSays v (sends port (ticks v).acts)
+  tick_says =
+      let first : List Act = (tells_neighbours v).acts in
+      subst (TickSays v)
+      (sym (sends_append port first (ages w).acts ∙ ap (λ zs. sends port first ++ zs) (sends_none port (ages w).acts (aside_ages w).unsaid) ∙ append-nil (sends port first)))
+      told_says

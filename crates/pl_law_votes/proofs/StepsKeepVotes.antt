@@ -31,7 +31,7 @@ use Rattle.pl_law_votes.proofs.AggregationTurns.{HoldsIds}
 use Rattle.pl_law_votes.proofs.Aside.{aside_data, votes_left, manager_leaves_votes}
 use Rattle.pl_law_votes.proofs.Hearing.{AreOf, IsHearing, IsTurn, drop_down, drop_up, hearing, turn_aside, turn_tick}
 use Rattle.pl_law_votes.proofs.Majority.{one_port_to}
-use Rattle.pl_law_votes.proofs.Messages.{tick_says}
+use Rattle.pl_law_votes.proofs.Messages.{told_says}
 use Rattle.pl_law_votes.proofs.Wired.{id_fits, ids_differ, is_there, leads_up, levels_apart, same_end, turned}
 
 -- a pair, by what it is made of
@@ -261,7 +261,7 @@ module _ (plan : Plan) (is : IsPlan plan) where
       let is_id = subst IsWritableId (sym (v.ids s)) (id_fits plan is s (subst (λ (p : Plan). s < switch_count p.k) same turns.there)) in
       let able = can.proposals s turns.there in
       turn_votes f g s Tick v turns
-      (turn_tick view able.begun (λ port. tick_says view port is_id (can.places s turns.there) able (λ id told. can.echoes s port id turns.there told)))
+      (turn_tick view able.begun (λ port. told_says view port is_id (can.places s turns.there) able (λ id told. can.echoes s port id turns.there told)))
 
 pub plane_votes : (manager : ManagerRule) (f g : ControlPlane) → CanTell f → IsVoting f.plan f.view f.says → PlaneStep Loose manager f g →
     IsVoting f.plan g.view g.says

@@ -14,7 +14,7 @@ use Rattle.pl_node.specs.declared.messages.ToManager.TheVariants as tell
 use Rattle.pl_node.specs.declared.messages.ToSwitch.TheVariants as say
 use Rattle.pl_node.specs.Gains.{Gains}
 use Rattle.pl_node.specs.ManagerViews.{Learnt, ManagerView, lookup, members_cmp, pod_given}
-use Rattle.pl_manager_rule.specs.ManagerRule.{answer_to, avoid_acts, learning, manager_hears, manager_rule, tree_acts, with_asker, with_learnt, with_link, with_place}
+use Rattle.pl_manager_rule.specs.ManagerRule.{answer_to, avoid_acts, hears_aged, learning, manager_hears, manager_rule, tree_acts, with_asker, with_learnt, with_link, with_place}
 use Rattle.pl_manager_rule.proofs.Exports.{no_avoid_acts, no_tree_acts}
 use Rattle.pl_manager.specs.Routing.{RoutingView, trees_told_anew}
 
@@ -82,6 +82,16 @@ module _ (view : ManagerView) (s : SwitchId) (before after : List ManagerAct) wh
     );
   }
 
+  pub aged_heard : (pmac : Pmac) (number : ℕ) (learnt : Learnt) → learnt ≡ (hears_aged view.learnt pmac number).learnt →
+      after ≡ before ++ (hears_aged view.learnt pmac number).acts →
+      Gains before after (manager_rule view s (tell.Aged pmac number) (record view { learnt = learnt }))
+  unfolding manager_hears
+  aged_heard pmac number learnt is acts = record {
+    items = (hears_aged view.learnt pmac number).acts;
+    gained = acts;
+    holds = (ap (λ those. record view { learnt = those }) is, sym (quiet view (hears_aged view.learnt pmac number).acts));
+  }
+
   pub question_heard : (asker : Pmac) (asker_ip ip : Ip4) →
       after ≡ before ++ Say s (answer_to asker asker_ip ip (lookup view.learnt ip)) ∷ [] →
       Gains before after (manager_rule view s (tell.Query asker asker_ip ip) view)
@@ -133,6 +143,13 @@ module _ {T E : Type 0} (result : Result T E) (view : ManagerView) (s : SwitchId
   address_told pmac amac ip learnt is =
       both_ok (λ was acts. subst (λ w. Gains before after (manager_rule view s w (record view { learnt = learnt }))) (sym is)
       (address_heard view s before after pmac amac ip learnt was acts))
+
+  pub aged_told : (pmac : Pmac) (number : ℕ) (learnt : Learnt) → says ≡ tell.Aged pmac number → OnOk result (learnt ≡ (hears_aged view.learnt pmac number).learnt) →
+      OnOk result (after ≡ before ++ (hears_aged view.learnt pmac number).acts) →
+      OnOk result (Gains before after (manager_rule view s says (record view { learnt = learnt })))
+  aged_told pmac number learnt is =
+      both_ok (λ was acts. subst (λ w. Gains before after (manager_rule view s w (record view { learnt = learnt }))) (sym is)
+      (aged_heard view s before after pmac number learnt was acts))
 
   pub question_told : (asker : Pmac) (asker_ip ip : Ip4) → says ≡ tell.Query asker asker_ip ip →
       OnOk result (after ≡ before ++ Say s (answer_to asker asker_ip ip (lookup view.learnt ip)) ∷ []) →

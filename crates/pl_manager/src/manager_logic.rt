@@ -4,7 +4,7 @@ ghost use Rattle.pl_manager.specs.Manager.{is_its_rule, manager_view};
 
 use crate::manager::Manager;
 use crate::routing::Routing;
-use crate::saying::{answer, give_pod, learn};
+use crate::saying::{age, answer, give_pod, learn};
 use pl_frame::{Ip4, Mac, SwitchId};
 use pl_manager_rule::LawfulManager;
 use pl_node::{AvoidList, ManagerLogic, ManagerOutbox, Memory, Place, ToManager, TreePart};
@@ -48,6 +48,7 @@ impl ManagerLogic for Manager {
             ToManager::Learned { pmac, amac, ip } => {
                 learn(&mut self.registry, switch, pmac, amac, ip, out)
             }
+            ToManager::Aged { pmac, number } => age(&mut self.registry, pmac, number, out),
             ToManager::Query {
                 asker,
                 asker_ip,

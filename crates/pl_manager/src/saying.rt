@@ -2,14 +2,14 @@ ghost use Rattle.std.specs.Prelude.{◌≡◌, ◌++◌, ◌∷◌, ◌<◌, [],
 ghost use Rattle.pl_node.specs.declared.acts.ManagerAct.TheVariants.{Say};
 ghost use Rattle.pl_node.specs.declared.messages.ToSwitch.TheVariants.{Pod};
 ghost use Rattle.pl_node.specs.ManagerViews.{lookup, pod_given, pods_given};
-ghost use Rattle.pl_manager_rule.specs.ManagerRule.{answer_to, learning, with_asker, with_learnt};
-ghost use Rattle.pl_registry.specs.Learning.{acts_of_learning};
+ghost use Rattle.pl_manager_rule.specs.ManagerRule.{answer_to, hears_aged, learning, with_asker, with_learnt};
+ghost use Rattle.pl_registry.specs.Learning.{acts_of_learning, acts_of_release};
 
 use crate::telling::say;
 use pl_frame::{Ip4, Mac, SwitchId};
 use pl_node::{ManagerAct, ManagerOutbox, Memory, ToSwitch};
 use pl_pmac::Pmac;
-use pl_registry::{Askers, Learning, Registry};
+use pl_registry::{Askers, Learning, Registry, Release};
 
 /// A switch that asks for the number of its pod is told it.
 pub(crate) fn give_pod(
@@ -61,6 +61,32 @@ fn tell_learning(pmac: Pmac, new: Learning, out: &mut ManagerOutbox) -> Result<(
             },
             out,
         ),
+        None => Ok(()),
+    }
+}
+
+/// An edge switch tells that an address has aged there. The switches that told what is released by that are
+/// told so.
+pub(crate) fn age(
+    registry: &mut Registry,
+    pmac: Pmac,
+    number: u64,
+    out: &mut ManagerOutbox,
+) -> Result<(), Memory>
+    ensures learnt { OnOk result (registry.new ≡ (hears_aged registry.old pmac number).learnt) }
+    ensures acts { OnOk result (out.new ≡ out.old ++ (hears_aged registry.old pmac number).acts) }
+{
+    let releases = registry.age(pmac, number)?;
+    tell_release(releases.own, out)?;
+    tell_release(releases.led, out)?;
+    Ok(())
+}
+
+fn tell_release(release: Option<Release>, out: &mut ManagerOutbox) -> Result<(), Memory>
+    ensures { OnOk result (out.new ≡ out.old ++ acts_of_release release) }
+{
+    match release {
+        Some(release) => say(release.switch, ToSwitch::Release(release.pmac), out),
         None => Ok(()),
     }
 }

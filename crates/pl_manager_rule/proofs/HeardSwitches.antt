@@ -1,7 +1,9 @@
 -- The fabric manager speaks to switches that it heard, and numbers just the addresses that it learns.
-use Rattle.std.proofs.Common.{◌≡◌, ◌≤◌, arith, ℕ, ◌+◌, ◌||◌, not, Bool, true, false, cond, List, [], ◌∷◌, ◌++◌, map, Option, Some, None, filter_map, flat_map, refl, sym, ap, append-nil, ◌∙◌, subst, inl, inr}
+use Rattle.std.proofs.Common.{◌≡◌, ◌≤◌, ◌⊎◌, arith, ℕ, ◌+◌, ◌||◌, not, Bool, true, false, cond, List, [], ◌∷◌, ◌++◌, map, Contains, Option, Some, None, filter_map, flat_map, refl, sym, ap, append-nil, ◌∙◌, subst, inl, inr}
 use Rattle.std.specs.Prelude.{unwrap_or}
-use Rattle.std.specs.List.{list_all, list_any}
+use Rattle.std.specs.List.{find, list_all, list_any}
+use Rattle.std.specs.Option.{option_map}
+use Rattle.std.proofs.lemmas.Option.{same_Some}
 use Rattle.std.proofs.lemmas.Bool.{and_from, cond_both, or_left}
 use Rattle.std.proofs.lemmas.List.Folds.{list_all-append}
 use Rattle.std.proofs.lemmas.List.Elements.{filter_map-append}
@@ -9,20 +11,22 @@ use Rattle.pl_frame.specs.declared.address.Mac.{Mac}
 use Rattle.pl_frame.specs.declared.address.SwitchId.{SwitchId}
 use Rattle.pl_pmac.specs.declared.pmac.Pmac.{Pmac}
 use Rattle.pl_layouts.specs.Equality.{same_pmac, same_switch}
-use Rattle.pl_layouts.proofs.Exports.{switch_itself}
+use Rattle.pl_layouts.proofs.Exports.{pmac_itself, switch_itself}
+use Rattle.pl_node.specs.declared.acts.ManagerAct.{ManagerAct}
 use Rattle.pl_node.specs.declared.acts.ManagerAct.TheVariants.{Say, Number}
 use Rattle.pl_node.specs.declared.messages.ToSwitch.{ToSwitch}
 use Rattle.pl_node.specs.declared.messages.ToSwitch.TheVariants as say
 use Rattle.pl_node.specs.declared.messages.ToManager.{ToManager}
 use Rattle.pl_node.specs.declared.messages.ToManager.TheVariants as tell
-use Rattle.pl_node.specs.ManagerViews.{Learnt, ManagerView, Registration, is_heard, lookup, newest, pod_given, registered_as, registry, switches, tellers}
+use Rattle.pl_node.specs.ManagerViews.{Learnt, ManagerView, Registration, is_heard, lookup, newest, pod_given, registered_as, registration, registry, switches, tellers}
 use Rattle.pl_node.specs.ManagerFacts.{groups}
 use Rattle.pl_node.specs.ManagerDuties.{AnswersDuly, AreNumbered, IsGrown, numbered_by, with_number, is_for_heard}
 use Rattle.pl_node.specs.AvoidLists.{avoid_list}
-use Rattle.pl_node.proofs.Exports.{all_among, among_filter, among_flat_map, among_map, among_right, IsAmong}
-use Rattle.pl_manager_rule.specs.ManagerRule.{ToldAddress, acts_of, answer_to, avoid_acts, changed, changed_of_group, host_of, invalidation, is_registered, learning, learnt_as, manager_hears, manager_rule, part_in, recalled, reply, same_avoid_list, same_part, told_again, tree_acts, tree_acts_of, view_after, with_learnt, with_owner}
-use Rattle.pl_manager_rule.proofs.Learning.{recalled_numbers, same_numbers}
-use Rattle.pl_manager_rule.proofs.Speakers.{heard_after, listed_is_heard, newest_heard, now_or_before}
+use Rattle.pl_node.proofs.Exports.{all_among, among_filter, among_flat_map, among_map, among_of_Contains, among_right, Contains-of_among, nothing_numbered}
+use Rattle.pl_manager_rule.specs.ManagerRule.{ToldAddress, acts_of, answer_to, avoid_acts, changed, changed_of_group, hears_aged, host_of, invalidation, is_registered, learning, learnt_as, manager_hears, manager_rule, part_in, recalled, reply, same_avoid_list, same_part, told_again, tree_acts, tree_acts_of, view_after, with_learnt, with_owner}
+use Rattle.pl_manager_rule.proofs.Aging.{AreReleases, aged_count, aged_releases, aged_was, releases_number_nothing}
+use Rattle.pl_manager_rule.proofs.Learning.{found_nowhere, recalled_numbers, same_numbers}
+use Rattle.pl_manager_rule.proofs.Speakers.{heard_after, listed_is_heard, newest_heard, now_or_before, registered_heard}
 
 -- ---- the acts
 invalidation_heard : (view : ManagerView) (s : SwitchId) (learnt : Learnt) (new : Pmac) (n : ℕ) (amac : Mac) (o : Option Registration) →
@@ -43,6 +47,20 @@ learning_heard view s after pmac amac =
     (λ old. refl)
     (λ fresh. invalidation_heard view s after pmac n amac (newest view.learnt amac) refl)
 
+-- of one that told an address
+teller_heard : (view : ManagerView) (s : SwitchId) (x : Pmac) (r : Registration) → registration view.learnt x ≡ Some r →
+    (same_switch s r.switch || is_heard view r.switch) ≡ true
+teller_heard view s x r is =
+    let learners = map (λ a. a.switch) view.learnt.addresses in let members = map (λ m. m.0.0) view.members in
+    now_or_before view s r.switch (inr (among_right r.switch (tellers view.told) (members ++ (view.askers ++ learners))
+    (among_right r.switch members (view.askers ++ learners) (among_right r.switch view.askers learners (registered_heard view.learnt x r is)))))
+
+releases_heard : (view : ManagerView) (s : SwitchId) (acts : List ManagerAct) → AreReleases view.learnt acts → list_all (is_for_heard view s) acts ≡ true
+releases_heard view s [] all = refl
+releases_heard view s (act ∷ acts) all =
+    and_from (is_for_heard view s act) (list_all (is_for_heard view s) acts)
+    (ap (is_for_heard view s) all.0.is ∙ teller_heard view s all.0.pmac all.0.reg all.0.registered) (releases_heard view s acts all.1)
+
 -- a message to the one that speaks
 speaker_heard : (view : ManagerView) (s : SwitchId) (says : ToSwitch) → list_all (is_for_heard view s) (Say s says ∷ []) ≡ true
 speaker_heard view s says = and_from (same_switch s s || is_heard view s) true (or_left (same_switch s s) (is_heard view s) (switch_itself s)) refl
@@ -50,6 +68,7 @@ speaker_heard view s says = and_from (same_switch s s || is_heard view s) true (
 reply_heard : (before after : ManagerView) (s : SwitchId) (says : ToManager) → list_all (is_for_heard before s) (reply before after s says) ≡ true
 reply_heard before after s tell.PodWanted = speaker_heard before s (say.Pod (unwrap_or (pod_given after.askers s) 0))
 reply_heard before after s (tell.Learned pmac amac ip) = learning_heard before s after.learnt pmac amac
+reply_heard before after s (tell.Aged pmac number) = releases_heard before s (hears_aged before.learnt pmac number).acts (aged_releases before.learnt pmac number)
 reply_heard before after s (tell.Query asker asker_ip ip) = speaker_heard before s (answer_to asker asker_ip ip (lookup after.learnt ip))
 reply_heard before after s (tell.Place place) = refl
 reply_heard before after s (tell.Link u usable) = refl
@@ -100,6 +119,25 @@ invalidation_numbers_nothing : (learnt : Learnt) (new : Pmac) (n : ℕ) (o : Opt
 invalidation_numbers_nothing learnt new n None = refl
 invalidation_numbers_nothing learnt new n (Some old) = refl
 
+not_contained : {X : Type 0} (x : X) → Contains [] x → ⊥
+not_contained x h = among_of_Contains x [] h
+
+only_one : {X : Type 0} (x y : X) → Contains (x ∷ []) y → y ≡ x
+only_one x y h = elim (among_of_Contains y (x ∷ []) h) [ inl is ↦ sym is | inr none ↦ absurd none ]
+
+-- what is registered once an address was learnt is that one, or was before
+new_or_old : (before : Learnt) (new : ToldAddress) (first : Registration)
+    (same : map registered_as (recalled (newest before new.amac) new.pmac (before.count + 1) before.addresses) ≡ registry before) (x : Pmac) (r : Registration) →
+    cond (same_pmac first.pmac x) (Some first) (find (λ r. same_pmac r.pmac x) (map registered_as (recalled (newest before new.amac) new.pmac (before.count + 1) before.addresses))) ≡ Some r →
+    (registration before x ≡ Some r) ⊎ Contains (with_number first ∷ []) (with_number r)
+new_or_old before new first same x r = by (same_pmac first.pmac x)
+  where
+    by : (b : Bool) → cond b (Some first) (find (λ r. same_pmac r.pmac x) (map registered_as (recalled (newest before new.amac) new.pmac (before.count + 1) before.addresses))) ≡ Some r →
+        (registration before x ≡ Some r) ⊎ Contains (with_number first ∷ []) (with_number r)
+    by true is = inr (subst (λ (q : Registration). Contains (with_number first ∷ []) (with_number q)) (same_Some first r is)
+        (Contains-of_among (with_number first) (with_number first ∷ []) (inl refl)))
+    by false is = inl (sym (ap (find (λ r. same_pmac r.pmac x)) same) ∙ is)
+
 -- what was learnt once this was told: of an address that was registered, or not
 abbrev learnt_by : Learnt → ToldAddress → Bool → Learnt
 learnt_by before new b = record {
@@ -112,30 +150,51 @@ learnt_by before new b = record {
 -- it is given the next number
 learning_numbers : (before : Learnt) (new : ToldAddress) →
     AreNumbered before (with_learnt before new) (filter_map numbered_by (learning before (with_learnt before new) new.pmac new.amac))
-learning_numbers before new = by (is_registered before.addresses new.pmac)
+learning_numbers before new = by (is_registered before.addresses new.pmac) refl
   where
-    by : (b : Bool) → AreNumbered before (learnt_by before new b) (filter_map numbered_by
+    by : (b : Bool) → is_registered before.addresses new.pmac ≡ b → AreNumbered before (learnt_by before new b) (filter_map numbered_by
         (cond b [] (Number new.pmac (before.count + 1) ∷ invalidation (with_learnt before new) new.pmac (before.count + 1) (newest before new.amac))))
-    by true = record { registered = ap (map with_number) (same_numbers new before.addresses); count = omega arith; next = tt }
-    by false =
+    by true there = record {
+      count = omega arith;
+      numbers = λ x n h. absurd (not_contained (x, n) h);
+      registered = λ x r is. inl (sym (ap (find (λ r. same_pmac r.pmac x)) (same_numbers new before.addresses)) ∙ is);
+    }
+    by false fresh =
         let n = before.count + 1 in
         let one : Pmac × ℕ = (new.pmac, n) in
         let first : Registration = registered_as (learnt_as n new) in
+        let same : map registered_as (recalled (newest before new.amac) new.pmac n before.addresses) ≡ registry before =
+        recalled_numbers (newest before new.amac) new.pmac n before.addresses in
         subst (λ ns. AreNumbered before (learnt_by before new false) (one ∷ ns))
         (sym (invalidation_numbers_nothing (with_learnt before new) new.pmac n (newest before new.amac)))
         (record {
-          registered = ap (λ rs. map with_number (first ∷ rs)) (recalled_numbers (newest before new.amac) new.pmac n before.addresses);
           count = omega arith;
-          next = (refl, tt);
+          numbers = λ x m h. let is : (x, m) ≡ one = only_one one (x, m) h in
+              subst (λ (g : Pmac × ℕ). (registration before g.0 ≡ None) × (g.1 ≡ n) × (option_map with_number (registration (learnt_by before new false) g.0) ≡ Some g))
+              (sym is) (
+                found_nowhere (λ r. same_pmac r.pmac new.pmac) (registry before) fresh,
+                refl,
+                ap (λ b. option_map with_number (cond b (Some first) (find (λ r. same_pmac r.pmac new.pmac) (map registered_as (recalled (newest before new.amac) new.pmac n before.addresses)))))
+                    (pmac_itself new.pmac),
+              );
+          registered = λ x r is. new_or_old before new first same x r is;
         })
 
-nothing_numbered : (learnt : Learnt) → AreNumbered learnt learnt []
-nothing_numbered learnt = record { registered = refl; count = omega arith; next = tt }
+-- an address that has aged is given none
+aging_numbers : (learnt : Learnt) (x : Pmac) (n : ℕ) → AreNumbered learnt (hears_aged learnt x n).learnt (filter_map numbered_by (hears_aged learnt x n).acts)
+aging_numbers learnt x n =
+    subst (AreNumbered learnt (hears_aged learnt x n).learnt) (sym (releases_number_nothing learnt (hears_aged learnt x n).acts (aged_releases learnt x n)))
+    (record {
+      count = let same = aged_count learnt x n in omega (arith, same);
+      numbers = λ y m h. absurd (not_contained (y, m) h);
+      registered = λ y r is. inl (aged_was learnt x n y r is);
+    })
 
 reply_numbers : (view : ManagerView) (s : SwitchId) (says : ToManager) →
     AreNumbered view.learnt (view_after view s says).learnt (filter_map numbered_by (reply view (view_after view s says) s says))
 reply_numbers view s tell.PodWanted = nothing_numbered view.learnt
 reply_numbers view s (tell.Learned pmac amac ip) = learning_numbers view.learnt (record { switch = s; pmac = pmac; amac = amac; ip = ip })
+reply_numbers view s (tell.Aged pmac number) = aging_numbers view.learnt pmac number
 reply_numbers view s (tell.Query asker asker_ip ip) = nothing_numbered view.learnt
 reply_numbers view s (tell.Place place) = nothing_numbered view.learnt
 reply_numbers view s (tell.Link u usable) = nothing_numbered view.learnt
@@ -160,6 +219,7 @@ one_more false n = omega arith
 
 addresses_after : (view : ManagerView) (s : SwitchId) (says : ToManager) → (view_after view s says).learnt.count ≤ view.learnt.count + 1
 addresses_after view s (tell.Learned pmac amac ip) = one_more (is_registered view.learnt.addresses pmac) view.learnt.count
+addresses_after view s (tell.Aged pmac number) = let same = aged_count view.learnt pmac number in omega (arith, same)
 addresses_after view s (tell.Query asker asker_ip ip) = omega arith
 addresses_after view s (tell.Place place) = omega arith
 addresses_after view s (tell.Link u usable) = omega arith
@@ -168,6 +228,7 @@ addresses_after view s (tell.Members group any) = omega arith
 
 same_k : (view : ManagerView) (s : SwitchId) (says : ToManager) → (view_after view s says).k ≡ view.k
 same_k view s (tell.Learned pmac amac ip) = refl
+same_k view s (tell.Aged pmac number) = refl
 same_k view s (tell.Query asker asker_ip ip) = refl
 same_k view s (tell.Place place) = refl
 same_k view s (tell.Link u usable) = refl

@@ -1,17 +1,15 @@
 -- What the fabric manager knows is what was told last.
-use Rattle.std.proofs.Common.{◌≡◌, ℕ, ◌+◌, ◌==◌, ◌&&◌, ◌||◌, Bool, true, false, cond, List, [], ◌∷◌, length, map, Option, Some, None, is_some, arith, Ordering, Less, Equal, Greater, refl, sym, ap, ◌∙◌, subst}
-use Rattle.std.specs.List.{find, list_any}
+use Rattle.std.proofs.Common.{◌≡◌, ℕ, ◌+◌, ◌==◌, ◌&&◌, ◌||◌, Bool, true, false, cond, not, List, [], ◌∷◌, ◌++◌, filter, length, map, reverse, Option, Some, None, is_some, arith, Ordering, Less, Equal, Greater, refl, sym, ap, ◌∙◌, subst}
+use Rattle.std.specs.List.{find, list_any, range_with_len}
 use Rattle.std.specs.Option.{option_and_then, option_map, option_or}
 use Rattle.std.specs.BTreeMap.{insert_entry}
 use Rattle.std.specs.Cmp.{Equal-is, IsTotalOrder}
 use Rattle.std.specs.Ordering.{is_eq, match_ordering}
-use Rattle.std.proofs.lemmas.Bool.{and_from, and_parts, cond_both, eq-eqb, eqb-true, false≢true, or_parts}
+use Rattle.std.proofs.lemmas.Bool.{and_from, and_parts, cond_both, eq-eqb, eqb-true, false≢true}
 use Rattle.std.proofs.lemmas.Cmp.{tied_itself}
-use Rattle.std.proofs.lemmas.Option.{none-some, same_Some}
 use Rattle.std.proofs.lemmas.Map.Lookups.{CmpEqualImpliesEq}
 use Rattle.pl_lemmas.proofs.Exports.{cond_and, false_before, same_truth}
 use Rattle.pl_frame.specs.declared.address.Ip4.{Ip4}
-use Rattle.pl_frame.specs.declared.address.Mac.{Mac}
 use Rattle.pl_frame.specs.declared.address.SwitchId.{SwitchId}
 use Rattle.pl_pmac.specs.declared.pmac.Pmac.{Pmac}
 use Rattle.pl_layouts.specs.Equality.{same_pmac, same_switch}
@@ -19,14 +17,17 @@ use Rattle.pl_layouts.proofs.Exports.{pmac_is, switch_itself}
 use Rattle.pl_node.specs.declared.messages.ToManager.{ToManager}
 use Rattle.pl_node.specs.declared.messages.ToManager.TheVariants as tell
 use Rattle.pl_node.specs.HostViews.{ip_cmp}
-use Rattle.pl_node.specs.ManagerViews.{Learnt, LearntAddress, PodGiven, Registration, id_cmp, ip_of, link_cmp, members_cmp, newest, owner, pods_given, registration, registry, value_at}
+use Rattle.pl_node.specs.ManagerViews.{Learnt, LearntAddress, ManagerView, PodGiven, Registration, id_cmp, ip_of, link_cmp, members_cmp, newest, owner, pods_given, registered_as, registration, registry, value_at}
 use Rattle.pl_node.proofs.Exports.{id_total}
-use Rattle.pl_manager_rule.specs.ManagerRule.{ToldAddress, host_of, is_registered, leads_on, learnt_as, manager_hears, recalled, told_again, view_after, with_address, with_asker, with_learnt, with_owner}
-use Rattle.pl_manager_rule.specs.Histories.{Word, ip_said, known, link_said, members_said, owner_said, place_said, pods_after, pods_asked, registered, registered_after, said_by, said_last}
+use Rattle.pl_manager_rule.specs.ManagerRule.{ToldAddress, hears_aged, host_of, is_registered, leads_on, learnt_as, manager_hears, recalled, told_again, view_after, with_address, with_asker}
+use Rattle.pl_manager_rule.specs.Histories.{Word, ip_said, ip_since, is_released_by, known, link_said, members_said, numbered, numbered_by_word, owner_said, owner_told, place_said, pods_after, pods_asked, registered, releases_address, said_by, said_last}
+use Rattle.pl_manager_rule.proofs.Aging.{aged_count, aged_owners}
 use Rattle.pl_manager_rule.proofs.Avoided.{same_is}
 use Rattle.pl_node.proofs.Exports.{id_exact}
 use Rattle.pl_manager_rule.proofs.Kept.{ip_exact, ip_total, link_exact, link_total, members_exact, members_total}
-use Rattle.pl_manager_rule.proofs.Learning.{any_registered, find_mapped, found_nowhere, host_now, registry_after, still_registered}
+use Rattle.pl_manager_rule.proofs.Registered.{one_more_item}
+use Rattle.pl_manager_rule.proofs.Releases.{aged_ips, aged_registry, filter_alike, filter_all, found_any, released_reply, reply_releases_none}
+use Rattle.pl_manager_rule.proofs.Learning.{any_registered, find_mapped, found_nowhere, registry_after}
 
 -- ---- two tests that hold of the same
 
@@ -86,11 +87,6 @@ silent : {X : Type 0} (b : Bool) (rest : Option X) → rest ≡ option_or (cond 
 silent true rest = refl
 silent false rest = refl
 
--- one more is counted where one more is registered
-counted_on : (rs : List Registration) (r : Registration) (b : Bool) → cond b (length rs) (length rs + 1) ≡ length (cond b rs (r ∷ rs))
-counted_on rs r true = refl
-counted_on rs r false = omega arith
-
 -- ---- places, links and members
 module _ (k : ℕ) where
   pub places_said : (words : List Word) (s : SwitchId) → value_at id_cmp (known k words).told.places s ≡ said_last (said_by s place_said) words
@@ -106,6 +102,7 @@ module _ (k : ℕ) where
       by (tell.Link u usable) = silent (same_switch w.switch s) (value_at id_cmp (known k before).told.places s)
       by tell.PodWanted = silent (same_switch w.switch s) (value_at id_cmp (known k before).told.places s)
       by (tell.Learned pmac amac ip) = silent (same_switch w.switch s) (value_at id_cmp (known k before).told.places s)
+      by (tell.Aged pmac number) = silent (same_switch w.switch s) (value_at id_cmp (known k before).told.places s)
       by (tell.Query asker asker_ip ip) = silent (same_switch w.switch s) (value_at id_cmp (known k before).told.places s)
       by (tell.Members group any) = silent (same_switch w.switch s) (value_at id_cmp (known k before).told.places s)
 
@@ -127,6 +124,7 @@ module _ (k : ℕ) where
       by (tell.Place place) = silent (same_switch w.switch s) (value_at link_cmp (known k before).told.links (s, u))
       by tell.PodWanted = silent (same_switch w.switch s) (value_at link_cmp (known k before).told.links (s, u))
       by (tell.Learned pmac amac ip) = silent (same_switch w.switch s) (value_at link_cmp (known k before).told.links (s, u))
+      by (tell.Aged pmac number) = silent (same_switch w.switch s) (value_at link_cmp (known k before).told.links (s, u))
       by (tell.Query asker asker_ip ip) = silent (same_switch w.switch s) (value_at link_cmp (known k before).told.links (s, u))
       by (tell.Members group any) = silent (same_switch w.switch s) (value_at link_cmp (known k before).told.links (s, u))
 
@@ -150,6 +148,7 @@ module _ (k : ℕ) where
       by (tell.Link u usable) = silent (same_switch w.switch s) (value_at members_cmp (known k before).members (s, group))
       by tell.PodWanted = silent (same_switch w.switch s) (value_at members_cmp (known k before).members (s, group))
       by (tell.Learned pmac amac ip) = silent (same_switch w.switch s) (value_at members_cmp (known k before).members (s, group))
+      by (tell.Aged pmac number) = silent (same_switch w.switch s) (value_at members_cmp (known k before).members (s, group))
       by (tell.Query asker asker_ip ip) = silent (same_switch w.switch s) (value_at members_cmp (known k before).members (s, group))
 
   -- ---- pods and registrations
@@ -174,37 +173,111 @@ module _ (k : ℕ) where
       by (tell.Place place) = refl
       by (tell.Link u usable) = refl
       by (tell.Learned pmac amac ip) = refl
+      by (tell.Aged pmac number) = refl
       by (tell.Query asker asker_ip ip) = refl
       by (tell.Members group any) = refl
 
-  -- and as many as are counted
-  both_told : (words : List Word) → (registry (known k words).learnt ≡ registered words) × ((known k words).learnt.count ≡ length (registered words))
+  -- ---- addresses: none but that one has aged releases any
+  pub none_released : (before : List Word) (w : Word) (x : Pmac) → ((pmac : Pmac) (n : ℕ) → w.says ≡ tell.Aged pmac n → ⊥) → is_released_by k before w x ≡ false
   unfolding manager_hears
-  both_told [] = (refl, refl)
-  both_told (w ∷ before) = by (both_told before) w.says
+  none_released before w x other =
+      let after : ManagerView = view_after (known k before) w.switch w.says in
+      released_reply (known k before) after x w.switch w.says ∙ reply_releases_none (known k before) after x w.switch w.says other
+
+  quiet_left : (before : List Word) (s : SwitchId) (says : ToManager) → ((pmac : Pmac) (n : ℕ) → says ≡ tell.Aged pmac n → ⊥) →
+      registry (known k before).learnt ≡ filter (λ r. not (is_released_by k before (record { switch = s; says = says }) r.pmac)) (registry (known k before).learnt)
+  quiet_left before s says other =
+      let w : Word = record { switch = s; says = says } in
+      sym (filter_all (λ (r : Registration). not (is_released_by k before w r.pmac)) (λ r. ap not (none_released before w r.pmac other)) (registry (known k before).learnt))
+
+  one_or_none : (b : Bool) (r : Registration) (rs : List Registration) → cond b rs (r ∷ rs) ≡ cond b [] (r ∷ []) ++ rs
+  one_or_none true r rs = refl
+  one_or_none false r rs = refl
+
+  -- what one word makes of the registrations
+  registered_by : (before : List Word) (s : SwitchId) (says : ToManager) →
+      registry (view_after (known k before) s says).learnt
+      ≡ numbered_by_word (known k before).learnt s says
+      ++ filter (λ r. not (is_released_by k before (record { switch = s; says = says }) r.pmac)) (registry (known k before).learnt)
+  unfolding manager_hears
+  registered_by before s tell.PodWanted = quiet_left before s tell.PodWanted (λ pmac n is. absurd (cc is))
+  registered_by before s (tell.Place place) = quiet_left before s (tell.Place place) (λ pmac n is. absurd (cc is))
+  registered_by before s (tell.Link u usable) = quiet_left before s (tell.Link u usable) (λ pmac n is. absurd (cc is))
+  registered_by before s (tell.Query asker asker_ip ip) = quiet_left before s (tell.Query asker asker_ip ip) (λ pmac n is. absurd (cc is))
+  registered_by before s (tell.Members group any) = quiet_left before s (tell.Members group any) (λ pmac n is. absurd (cc is))
+  registered_by before s (tell.Learned pmac amac ip) =
+      let learnt : Learnt = (known k before).learnt in
+      let new : ToldAddress = record { switch = s; pmac = pmac; amac = amac; ip = ip } in
+      let first : Registration = registered_as (learnt_as (learnt.count + 1) new) in
+      registry_after learnt new ∙ one_or_none (is_registered learnt.addresses pmac) first (registry learnt)
+      ∙ ap (λ b. cond b [] (first ∷ []) ++ registry learnt) (sym (found_any (λ (r : Registration). same_pmac r.pmac pmac) (registry learnt)))
+      ∙ ap (λ rs. numbered_by_word learnt s (tell.Learned pmac amac ip) ++ rs) (quiet_left before s (tell.Learned pmac amac ip) (λ x n is. absurd (cc is)))
+  registered_by before s (tell.Aged pmac n) =
+      let learnt : Learnt = (known k before).learnt in
+      let after : ManagerView = view_after (known k before) s (tell.Aged pmac n) in
+      aged_registry learnt pmac n
+      ∙ filter_alike (λ (r : Registration). not (list_any (releases_address r.pmac) (hears_aged learnt pmac n).acts))
+      (λ r. not (is_released_by k before (record { switch = s; says = tell.Aged pmac n }) r.pmac))
+      (λ r. ap not (sym (released_reply (known k before) after r.pmac s (tell.Aged pmac n)))) (registry learnt)
+
+  pub registrations_are_told : (words : List Word) → registry (known k words).learnt ≡ registered k words
+  unfolding manager_hears
+  registrations_are_told [] = refl
+  registrations_are_told (w ∷ before) =
+      registered_by before w.switch w.says
+      ∙ ap (λ rs. numbered_by_word (known k before).learnt w.switch w.says ++ filter (λ r. not (is_released_by k before w r.pmac)) rs)
+      (registrations_are_told before)
+
+  -- as many were given numbers as are counted
+  numbered_long : (words : List Word) → length (numbered k words) ≡ (known k words).learnt.count
+  unfolding manager_hears
+  numbered_long [] = refl
+  numbered_long (w ∷ before) = by (numbered_long before) w.says
     where
-      by : (registry (known k before).learnt ≡ registered before) × ((known k before).learnt.count ≡ length (registered before)) →
-          (says : ToManager) → (registry (view_after (known k before) w.switch says).learnt ≡ registered_after (registered before) w.switch says)
-          × ((view_after (known k before) w.switch says).learnt.count ≡ length (registered_after (registered before) w.switch says))
-      by rest (tell.Learned pmac amac ip) = (
-        registry_after (known k before).learnt (record { switch = w.switch; pmac = pmac; amac = amac; ip = ip })
-            ∙ (λ i. cond (list_any (λ r. same_pmac r.pmac pmac) (rest.0 i)) (rest.0 i)
-            (record { pmac = pmac; amac = amac; number = rest.1 i + 1; switch = w.switch } ∷ rest.0 i)),
-        (λ i. cond (list_any (λ r. same_pmac r.pmac pmac) (rest.0 i)) (rest.1 i) (rest.1 i + 1))
-            ∙ counted_on (registered before) (record { pmac = pmac; amac = amac; number = length (registered before) + 1; switch = w.switch })
-            (list_any (λ r. same_pmac r.pmac pmac) (registered before)),
-      )
+      count : ℕ
+      count = (known k before).learnt.count
+
+      one_more : length (numbered k before) ≡ count → (b : Bool) (r : Registration) → length (cond b [] (r ∷ []) ++ numbered k before) ≡ cond b count (count + 1)
+      one_more rest true r = rest
+      one_more rest false r = omega (arith, rest)
+
+      by : length (numbered k before) ≡ count → (says : ToManager) →
+          length (numbered_by_word (known k before).learnt w.switch says ++ numbered k before) ≡ (view_after (known k before) w.switch says).learnt.count
       by rest tell.PodWanted = rest
       by rest (tell.Place place) = rest
       by rest (tell.Link u usable) = rest
       by rest (tell.Query asker asker_ip ip) = rest
       by rest (tell.Members group any) = rest
+      by rest (tell.Aged pmac n) = rest ∙ sym (aged_count (known k before).learnt pmac n)
+      by rest (tell.Learned pmac amac ip) =
+          let learnt : Learnt = (known k before).learnt in
+          one_more rest (is_some (registration learnt pmac)) (record { pmac = pmac; amac = amac; number = count + 1; switch = w.switch })
+          ∙ ap (λ b. cond b count (count + 1)) (found_any (λ (r : Registration). same_pmac r.pmac pmac) (registry learnt))
 
-  pub registrations_are_told : (words : List Word) → registry (known k words).learnt ≡ registered words
-  registrations_are_told words = (both_told words).0
+  abbrev AreInRange : List Registration → Type 0
+  AreInRange rs = reverse (map (λ r. r.number) rs) ≡ range_with_len 1 (length rs)
 
-  pub count_is_told : (words : List Word) → (known k words).learnt.count ≡ length (registered words)
-  count_is_told words = (both_told words).1
+  numbers_in_range : (words : List Word) → reverse (map (λ r. r.number) (numbered k words)) ≡ range_with_len 1 (length (numbered k words))
+  unfolding manager_hears
+  numbers_in_range [] = refl
+  numbers_in_range (w ∷ before) = by (numbers_in_range before) w.says
+    where
+      by : AreInRange (numbered k before) → (says : ToManager) → AreInRange (numbered_by_word (known k before).learnt w.switch says ++ numbered k before)
+      by rest tell.PodWanted = rest
+      by rest (tell.Place place) = rest
+      by rest (tell.Link u usable) = rest
+      by rest (tell.Query asker asker_ip ip) = rest
+      by rest (tell.Members group any) = rest
+      by rest (tell.Aged pmac n) = rest
+      by rest (tell.Learned pmac amac ip) =
+          let learnt : Learnt = (known k before).learnt in
+          let first : Registration = record { pmac = pmac; amac = amac; number = learnt.count + 1; switch = w.switch } in
+          let long : length (numbered k before) ≡ learnt.count = numbered_long before in
+          cond_both (is_some (registration learnt pmac)) [] (first ∷ []) (λ rs. AreInRange (rs ++ numbered k before)) (λ again. rest)
+          (λ fresh. one_more_item (λ (r : Registration). r.number) 1 first (numbered k before) (omega (arith, long)) rest)
+
+  pub numbers_are_counted : (words : List Word) → reverse (map (λ r. r.number) (numbered k words)) ≡ range_with_len 1 (known k words).learnt.count
+  numbers_are_counted words = numbers_in_range words ∙ ap (range_with_len 1) (numbered_long words)
 
 -- ---- the IPv4 address of a pseudo address
 abbrev ip_in : List LearntAddress → Pmac → Option Ip4
@@ -287,7 +360,7 @@ ip_again addresses new x there = by (same_pmac new.pmac x) refl
         subst (λ y. ip_in (map (told_again new) addresses) y ≡ option_or new.ip (ip_in addresses y)) (pmac_is new.pmac x is) (ip_same new addresses there)
     by false is = ip_other new x is addresses
 
-ip_after : (learnt : Learnt) (new : ToldAddress) (x : Pmac) →
+pub ip_after : (learnt : Learnt) (new : ToldAddress) (x : Pmac) →
     ip_in (with_address learnt new) x ≡ option_or (cond (same_pmac new.pmac x) new.ip None) (ip_in learnt.addresses x)
 ip_after learnt new x =
     let n = learnt.count + 1 in
@@ -297,83 +370,60 @@ ip_after learnt new x =
     (λ again. ip_again learnt.addresses new x (any_registered learnt.addresses new.pmac ∙ again))
     (λ fresh. ip_first learnt new x fresh)
 
--- ---- the owner of an IPv4 address
--- the IPv4 address was told last with a registered address, whose host is its owner
-record HasOwner (learnt : Learnt) (ip : Ip4) (said : Option Pmac) : Type 0 where
-  pub registered : (x : Pmac) → said ≡ Some x → is_some (registration learnt x) ≡ true
-  pub owner_is : owner learnt ip ≡ option_map (λ r. r.amac) (option_and_then (registration learnt) said)
-
--- no other address is told with it
-told_other : (learnt : Learnt) (new : ToldAddress) (ip : Ip4) (said : Option Pmac) → owner (with_learnt learnt new) ip ≡ owner learnt ip →
-    HasOwner learnt ip said → HasOwner (with_learnt learnt new) ip said
-told_other learnt new ip None same has = record { registered = λ x is. absurd (none-some x is); owner_is = same ∙ has.owner_is }
-told_other learnt new ip (Some y) same has =
-    let kept = still_registered learnt new y (has.registered y refl) in record {
-      registered = λ x is. subst (λ z. is_some (registration (with_learnt learnt new) z) ≡ true) (same_Some y x is)
-          (ap is_some kept ∙ has.registered y refl);
-      owner_is = same ∙ has.owner_is ∙ sym (ap (option_map (λ (r : Registration). r.amac)) kept);
-    }
-
--- this address is
-told_with_it : (learnt : Learnt) (new : ToldAddress) (ip : Ip4) → owner (with_learnt learnt new) ip ≡ Some (host_of learnt new) →
-    HasOwner (with_learnt learnt new) ip (Some new.pmac)
-told_with_it learnt new ip now = record {
-  registered = λ x is. subst (λ z. is_some (registration (with_learnt learnt new) z) ≡ true) (same_Some new.pmac x is)
-      (some_inside (registration (with_learnt learnt new) new.pmac) (host_of learnt new) (host_now learnt new));
-  owner_is = now ∙ sym (host_now learnt new);
-}
-  where
-    some_inside : (o : Option Registration) (amac : Mac) → option_map (λ r. r.amac) o ≡ Some amac → is_some o ≡ true
-    some_inside None amac e = absurd (none-some amac e)
-    some_inside (Some r) amac e = refl
-
-told_either : (learnt : Learnt) (new : ToldAddress) (told ip : Ip4) (said : Option Pmac) (b : Bool) → new.ip ≡ Some told → (told.0 == ip.0) ≡ b →
-    HasOwner learnt ip said → HasOwner (with_learnt learnt new) ip (option_or (cond b (Some new.pmac) None) said)
-told_either learnt new told ip said b names test has = by b test
-  where
-    now : owner (with_learnt learnt new) ip ≡ option_or (cond (told.0 == ip.0) (Some (host_of learnt new)) None) (owner learnt ip)
-    now =
-        ap (λ o. value_at ip_cmp (with_owner learnt.owners o (host_of learnt new)) ip) names
-        ∙ word_after ip_cmp ip_total ip_exact learnt.owners told ip (host_of learnt new) (told.0 == ip.0)
-        (λ h. ap (λ n. let a : Ip4 = record { 0 = n } in a) (sym (eqb-true told.0 ip.0 h)))
-        (λ e. eq-eqb told.0 ip.0 (sym (ap (λ (a : Ip4). a.0) e)))
-
-    by : (c : Bool) → (told.0 == ip.0) ≡ c → HasOwner (with_learnt learnt new) ip (option_or (cond c (Some new.pmac) None) said)
-    by true same = told_with_it learnt new ip (now ∙ ap (λ c. option_or (cond c (Some (host_of learnt new)) None) (owner learnt ip)) same)
-    by false other = told_other learnt new ip said (now ∙ ap (λ c. option_or (cond c (Some (host_of learnt new)) None) (owner learnt ip)) other) has
-
 module _ (k : ℕ) where
-  pub ips_said : (words : List Word) (x : Pmac) → ip_of (known k words).learnt x ≡ said_last (λ w. ip_said x w.says) words
+  -- an address that is released has none any more; that another one has aged leaves it
+  ip_aged : (before : List Word) (s : SwitchId) (x y : Pmac) (n : ℕ) →
+      ip_of (hears_aged (known k before).learnt x n).learnt y
+      ≡ cond (is_released_by k before (record { switch = s; says = tell.Aged x n }) y) None (ip_of (known k before).learnt y)
+  unfolding manager_hears
+  ip_aged before s x y n =
+      let learnt : Learnt = (known k before).learnt in
+      let after : ManagerView = view_after (known k before) s (tell.Aged x n) in
+      aged_ips y learnt x n ∙ ap (λ b. cond b None (ip_of learnt y)) (sym (released_reply (known k before) after y s (tell.Aged x n)))
+
+  pub ips_said : (words : List Word) (x : Pmac) → ip_of (known k words).learnt x ≡ ip_since k words x
   unfolding manager_hears
   ips_said [] x = refl
-  ips_said (w ∷ before) x = by w.says ∙ ap (option_or (ip_said x w.says)) (ips_said before x)
+  ips_said (w ∷ before) x =
+      by w.says refl ∙ ap (λ o. cond (is_released_by k before w x) None (option_or (ip_said x w.says) o)) (ips_said before x)
     where
-      by : (says : ToManager) → ip_of (view_after (known k before) w.switch says).learnt x ≡ option_or (ip_said x says) (ip_of (known k before).learnt x)
-      by (tell.Learned pmac amac ip) = ip_after (known k before).learnt (record { switch = w.switch; pmac = pmac; amac = amac; ip = ip }) x
+      learnt : Learnt
+      learnt = (known k before).learnt
+
+      -- where nothing is released
+      left : ((pmac : Pmac) (n : ℕ) → w.says ≡ tell.Aged pmac n → ⊥) → (o : Option Ip4) → o ≡ cond (is_released_by k before w x) None o
+      left other o = sym (ap (λ b. cond b None o) (none_released k before w x other))
+
+      by : (says : ToManager) → w.says ≡ says →
+          ip_of (view_after (known k before) w.switch says).learnt x ≡ cond (is_released_by k before w x) None (option_or (ip_said x says) (ip_of learnt x))
+      by tell.PodWanted is = left (λ pmac n other. absurd (cc (sym is ∙ other))) (ip_of learnt x)
+      by (tell.Place place) is = left (λ pmac n other. absurd (cc (sym is ∙ other))) (ip_of learnt x)
+      by (tell.Link u usable) is = left (λ pmac n other. absurd (cc (sym is ∙ other))) (ip_of learnt x)
+      by (tell.Query asker asker_ip ip) is = left (λ pmac n other. absurd (cc (sym is ∙ other))) (ip_of learnt x)
+      by (tell.Members group any) is = left (λ pmac n other. absurd (cc (sym is ∙ other))) (ip_of learnt x)
+      by (tell.Learned pmac amac ip) is =
+          let new : ToldAddress = record { switch = w.switch; pmac = pmac; amac = amac; ip = ip } in
+          ip_after learnt new x ∙ left (λ y n other. absurd (cc (sym is ∙ other))) (option_or (cond (same_pmac pmac x) ip None) (ip_of learnt x))
+      by (tell.Aged y n) is =
+          ip_aged before w.switch y x n
+          ∙ ap (λ (says : ToManager). cond (is_released_by k before (record { switch = w.switch; says = says }) x) None (ip_of learnt x)) (sym is)
+
+  pub owners_said : (words : List Word) (ip : Ip4) → owner (known k words).learnt ip ≡ owner_told k words ip
+  unfolding manager_hears
+  owners_said [] ip = refl
+  owners_said (w ∷ before) ip = by w.says ∙ ap (option_or (owner_said (known k before).learnt ip w.switch w.says)) (owners_said before ip)
+    where
+      by : (says : ToManager) → owner (view_after (known k before) w.switch says).learnt ip
+          ≡ option_or (owner_said (known k before).learnt ip w.switch says) (owner (known k before).learnt ip)
+      by (tell.Learned pmac amac None) = refl
+      by (tell.Learned pmac amac (Some told)) =
+          let new : ToldAddress = record { switch = w.switch; pmac = pmac; amac = amac; ip = Some told } in
+          word_after ip_cmp ip_total ip_exact (known k before).learnt.owners told ip (host_of (known k before).learnt new) (told.0 == ip.0)
+          (λ h. ap (λ n. let a : Ip4 = record { 0 = n } in a) (sym (eqb-true told.0 ip.0 h)))
+          (λ e. eq-eqb told.0 ip.0 (sym (ap (λ (a : Ip4). a.0) e)))
+      by (tell.Aged pmac number) = ap (λ owners. value_at ip_cmp owners ip) (aged_owners (known k before).learnt pmac number)
       by tell.PodWanted = refl
       by (tell.Place place) = refl
       by (tell.Link u usable) = refl
-      by (tell.Query asker asker_ip ip) = refl
+      by (tell.Query asker asker_ip other) = refl
       by (tell.Members group any) = refl
-
-  has_owner : (words : List Word) (ip : Ip4) → HasOwner (known k words).learnt ip (said_last (λ w. owner_said ip w.says) words)
-  unfolding manager_hears
-  has_owner [] ip = record { registered = λ x is. absurd (none-some x is); owner_is = refl }
-  has_owner (w ∷ before) ip = by (has_owner before ip) w.says
-    where
-      by : HasOwner (known k before).learnt ip (said_last (λ w. owner_said ip w.says) before) → (says : ToManager) →
-          HasOwner (view_after (known k before) w.switch says).learnt ip (option_or (owner_said ip says) (said_last (λ w. owner_said ip w.says) before))
-      by rest (tell.Learned pmac amac None) =
-          told_other (known k before).learnt (record { switch = w.switch; pmac = pmac; amac = amac; ip = None }) ip (said_last (λ w. owner_said ip w.says) before) refl rest
-      by rest (tell.Learned pmac amac (Some told)) =
-          told_either (known k before).learnt (record { switch = w.switch; pmac = pmac; amac = amac; ip = Some told }) told ip
-          (said_last (λ w. owner_said ip w.says) before) (told.0 == ip.0) refl refl rest
-      by rest tell.PodWanted = rest
-      by rest (tell.Place place) = rest
-      by rest (tell.Link u usable) = rest
-      by rest (tell.Query asker asker_ip other) = rest
-      by rest (tell.Members group any) = rest
-
-  pub owners_said : (words : List Word) (ip : Ip4) → owner (known k words).learnt ip
-      ≡ option_map (λ r. r.amac) (option_and_then (registration (known k words).learnt) (said_last (λ w. owner_said ip w.says) words))
-  owners_said words ip = (has_owner words ip).owner_is

@@ -11,7 +11,6 @@ use Rattle.pl_lemmas.proofs.Exports.{false_before, true_inside}
 use Rattle.pl_frame.specs.declared.address.Ip4.{Ip4}
 use Rattle.pl_frame.specs.declared.address.Mac.{Mac}
 use Rattle.pl_frame.specs.declared.address.SwitchId.{SwitchId}
-use Rattle.pl_pmac.specs.declared.pmac.Pmac.{Pmac}
 use Rattle.pl_layouts.specs.Equality.{same_pmac, same_switch}
 use Rattle.pl_layouts.proofs.Exports.{switch_itself}
 use Rattle.pl_node.specs.declared.messages.ToManager.{ToManager}
@@ -22,6 +21,7 @@ use Rattle.pl_node.proofs.Exports.{among_filtered, among_in_order, among_map, am
 use Rattle.pl_manager_rule.specs.ManagerRule.{ToldAddress, host_of, is_registered, learnt_as, manager_hears, recalled, told_again, view_after, with_address, with_asker, with_owner}
 use Rattle.pl_manager_rule.specs.Histories.{Word, known}
 use Rattle.pl_manager_rule.specs.Repeats.{TablesAreInOrder}
+use Rattle.pl_manager_rule.proofs.Aging.{aged_once, aged_owners}
 use Rattle.pl_manager_rule.proofs.Avoided.{same_is}
 use Rattle.pl_manager_rule.proofs.Learning.{learnt_registered, same_field, same_recalled}
 use Rattle.pl_node.proofs.Exports.{both_equal, id_exact}
@@ -148,6 +148,14 @@ kept view s (tell.Learned pmac amac ip) o = record {
   askers = o.askers;
   addresses = addresses_kept view.learnt (record { switch = s; pmac = pmac; amac = amac; ip = ip }) o.addresses;
   owners = owners_kept view.learnt.owners ip (host_of view.learnt (record { switch = s; pmac = pmac; amac = amac; ip = ip })) o.owners;
+}
+kept view s (tell.Aged pmac number) o = record {
+  places = o.places;
+  links = o.links;
+  members = o.members;
+  askers = o.askers;
+  addresses = aged_once view.learnt pmac number o.addresses;
+  owners = subst (λ owners. IsStrictlySortedBy ip_cmp (keys_of owners)) (sym (aged_owners view.learnt pmac number)) o.owners;
 }
 kept view s (tell.Query asker asker_ip ip) o = o
 kept view s (tell.Members group any) o = record {

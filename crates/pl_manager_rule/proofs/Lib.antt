@@ -5,10 +5,12 @@ pub mod Parts
 pub mod Sameness
 pub mod Tables
 pub mod Learning
+pub mod Aging
 pub mod Speakers
 pub mod Kept
 pub mod Repeated
 pub mod ToldLast
+pub mod Releases
 pub mod History
 pub mod Newest
 pub mod Exports

@@ -1,18 +1,15 @@
--- Addresses and pods are numbered in the order in which they come, each once.
+-- Pods are numbered in the order in which they come, each once.
 use Rattle.std.proofs.Common.{◌≡◌, ℕ, suc, ◌+◌, ◌&&◌, ◌||◌, Bool, true, false, cond, List, [], ◌∷◌, ◌++◌, map, reverse, length, Some, is_some, IsSome, refl, sym, ap, ◌∙◌, subst, arith, eq-eqb}
 use Rattle.std.specs.List.{AllByRecursion, IsDistinct, find, list_any, range_with_len}
 use Rattle.std.specs.Option.{option_map}
-use Rattle.std.proofs.lemmas.Bool.{cond_both, false≢true, or_parts}
+use Rattle.std.proofs.lemmas.Bool.{false≢true, or_parts}
 use Rattle.std.proofs.lemmas.Cmp.{nat_eq_equiv}
 use Rattle.std.proofs.lemmas.List.{length-map, reverse-append}
 use Rattle.pl_lemmas.proofs.Exports.{range_more}
 use Rattle.pl_frame.specs.declared.address.SwitchId.{SwitchId}
 use Rattle.pl_pmac.specs.declared.pmac.Pmac.{Pmac}
 use Rattle.pl_layouts.specs.Equality.{same_pmac, same_switch}
-use Rattle.pl_node.specs.declared.messages.ToManager.{ToManager}
-use Rattle.pl_node.specs.declared.messages.ToManager.TheVariants as tell
-use Rattle.pl_node.specs.ManagerViews.{PodGiven, Registration, pod_given, pods_given}
-use Rattle.pl_manager_rule.specs.Histories.{Word, registered, registered_after}
+use Rattle.pl_node.specs.ManagerViews.{PodGiven, pod_given, pods_given}
 use Rattle.pl_manager_rule.specs.ManagerRule.{with_asker}
 
 -- one more number, the next one
@@ -22,7 +19,7 @@ one_more a n ns next h =
     reverse-append (n ∷ []) ns ∙ ap (λ r. r ++ n ∷ []) h ∙ ap (λ m. range_with_len a (length ns) ++ m ∷ []) next ∙ sym (range_more a (length ns))
 
 -- the same of the field of each item
-one_more_item : {X : Type 0} (f : X → ℕ) (a : ℕ) (x : X) (xs : List X) → f x ≡ a + length xs → reverse (map f xs) ≡ range_with_len a (length xs) →
+pub one_more_item : {X : Type 0} (f : X → ℕ) (a : ℕ) (x : X) (xs : List X) → f x ≡ a + length xs → reverse (map f xs) ≡ range_with_len a (length xs) →
     reverse (map f (x ∷ xs)) ≡ range_with_len a (suc (length xs))
 one_more_item f a x xs next h =
     let long : length (map f xs) ≡ length xs = length-map xs f in
@@ -41,25 +38,6 @@ switch_turned a b = nat_eq_equiv.symm a.0 b.0
 pub pmac_turned : (a b : Pmac) → same_pmac a b ≡ same_pmac b a
 pmac_turned a b = λ i. ((nat_eq_equiv.symm a.pod b.pod i && nat_eq_equiv.symm a.position b.position i) && nat_eq_equiv.symm a.port b.port i)
     && nat_eq_equiv.symm a.vmid b.vmid i
-
--- ---- addresses
-abbrev IsNumbered : List Registration → Type 0
-IsNumbered rs = reverse (map (λ r. r.number) rs) ≡ range_with_len 1 (length rs)
-
-numbered_after : (rs : List Registration) (s : SwitchId) (says : ToManager) → IsNumbered rs → IsNumbered (registered_after rs s says)
-numbered_after rs s (tell.Learned pmac amac ip) rest =
-    let new : Registration = record { pmac = pmac; amac = amac; number = length rs + 1; switch = s } in
-    cond_both (list_any (λ r. same_pmac r.pmac pmac) rs) rs (new ∷ rs) IsNumbered (λ again. rest)
-    (λ first. one_more_item (λ r. r.number) 1 new rs (omega arith) rest)
-numbered_after rs s (tell.Place place) rest = rest
-numbered_after rs s (tell.Link u usable) rest = rest
-numbered_after rs s tell.PodWanted rest = rest
-numbered_after rs s (tell.Query asker asker_ip ip) rest = rest
-numbered_after rs s (tell.Members group any) rest = rest
-
-pub numbers_in_order : (words : List Word) → reverse (map (λ r. r.number) (registered words)) ≡ range_with_len 1 (length (registered words))
-numbers_in_order [] = refl
-numbers_in_order (w ∷ before) = numbered_after (registered before) w.switch w.says (numbers_in_order before)
 
 -- ---- pods
 pub pods_in_order : (askers : List SwitchId) → reverse (map (λ g. g.pod) (pods_given askers)) ≡ range_with_len 0 (length (pods_given askers))

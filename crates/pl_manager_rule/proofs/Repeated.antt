@@ -1,4 +1,5 @@
 -- A word that was told last already changes nothing.
+use Rattle.std.specs.Prelude.{unwrap_or}
 use Rattle.std.proofs.Common.{◌≡◌, ℕ, ◌||◌, not, Bool, true, false, cond, List, [], ◌∷◌, ◌++◌, ◌+◌, map, Option, Some, None, is_some, IsSome, filter, flat_map, refl, sym, ap, ◌∙◌, subst, append-nil}
 use Rattle.std.specs.List.{AllByRecursion, IsDistinct, find, list_any}
 use Rattle.std.specs.Option.{option_and_then, option_map, option_or}
@@ -14,10 +15,10 @@ use Rattle.pl_node.specs.declared.messages.ToManager.{ToManager}
 use Rattle.pl_node.specs.declared.messages.ToManager.TheVariants as tell
 use Rattle.pl_node.specs.HostViews.{ip_cmp}
 use Rattle.pl_node.specs.ManagerFacts.{groups}
-use Rattle.pl_node.specs.ManagerViews.{Learnt, LearntAddress, ManagerView, Registration, Told, id_cmp, link_cmp, members_cmp, newest, pods_given, registration, registry, switches}
+use Rattle.pl_node.specs.ManagerViews.{Learnt, LearntAddress, ManagerView, Recall, Registration, Told, id_cmp, link_cmp, members_cmp, newest, pods_given, recall_of, registration, registry, switches}
 use Rattle.pl_node.specs.AvoidLists.{avoid_list}
-use Rattle.pl_manager_rule.specs.ManagerRule.{ManagerStep, ToldAddress, acts_of, avoid_acts, host_of, invalidation, is_registered, learnt_as, manager_hears, part_in, recalled, reply, same_avoid_list, same_part, told_again, tree_acts, tree_acts_of, view_after, with_address, with_learnt, with_owner}
-use Rattle.pl_manager_rule.specs.Repeats.{HasToldLast, TablesAreInOrder, IsKnownAddress, answers}
+use Rattle.pl_manager_rule.specs.ManagerRule.{LearntStep, ManagerStep, ToldAddress, acts_of, ages_now, avoid_acts, can_release, counts, hears_aged, host_of, invalidation, is_registered, learnt_as, manager_hears, nothing_said, part_in, recalled, releases, releases_as, releases_both, reply, same_avoid_list, same_part, told_again, tree_acts, tree_acts_of, view_after, with_address, with_aged, with_learnt, with_owner}
+use Rattle.pl_manager_rule.specs.Repeats.{HasToldLast, IsCounted, IsKeptBehind, IsKnownAddress, TablesAreInOrder, answers}
 use Rattle.pl_manager_rule.proofs.Kept.{ip_exact, ip_total, link_exact, link_total, members_exact, members_total}
 use Rattle.pl_node.proofs.Exports.{id_exact}
 use Rattle.pl_manager_rule.proofs.Learning.{any_where_found, some_host}
@@ -124,6 +125,67 @@ told_same view s pmac amac (Some ip) order there known =
     (put_again ip_cmp ip_total ip_exact view.learnt.owners ip (host_of view.learnt new) order.owners
     (known.1 ∙ some_host (registration view.learnt pmac) amac there))
 
+-- ---- an address that has aged
+-- what has aged ages no more
+ages_again : (x : Pmac) (a : LearntAddress) → (same_pmac a.pmac x ≡ true → a.aged ≡ true) → ages_now x a ≡ a
+ages_again x a own = ap (λ aged. record a { aged = aged }) (by (same_pmac a.pmac x) refl)
+  where
+    by : (b : Bool) → same_pmac a.pmac x ≡ b → (b || a.aged) ≡ a.aged
+    by true same = sym (own same)
+    by false other = refl
+
+all_age_again : (x : Pmac) (addresses : List LearntAddress) → AllByRecursion (λ a. same_pmac a.pmac x ≡ true → a.aged ≡ true) addresses →
+    map (ages_now x) addresses ≡ addresses
+all_age_again x [] all = refl
+all_age_again x (a ∷ addresses) all = λ i. ages_again x a all.0 i ∷ all_age_again x addresses all.1 i
+
+-- behind the one that is found there is no other of that address
+others_aged : (x p : Pmac) (addresses : List LearntAddress) → AllByRecursion (λ q. same_pmac p q ≡ false) (map (λ a. a.pmac) addresses) → p ≡ x →
+    AllByRecursion (λ a. same_pmac a.pmac x ≡ true → a.aged ≡ true) addresses
+others_aged x p [] apart is = tt
+others_aged x p (a ∷ addresses) apart is = (
+  λ same. absurd (false≢true (sym apart.0 ∙ subst (λ q. same_pmac p q ≡ true) (is ∙ sym (pmac_is a.pmac x same)) (pmac_itself p))),
+  others_aged x p addresses apart.1 is,
+)
+
+found_aged : (x : Pmac) (addresses : List LearntAddress) → IsDistinct same_pmac (map (λ a. a.pmac) addresses) →
+    unwrap_or (option_map (λ a. a.aged) (find (λ a. same_pmac a.pmac x) addresses)) false ≡ true →
+    AllByRecursion (λ a. same_pmac a.pmac x ≡ true → a.aged ≡ true) addresses
+unfolding IsDistinct
+found_aged x [] once found = tt
+found_aged x (a ∷ addresses) once found = by (λ k. found_aged x addresses once.1 k) (same_pmac a.pmac x) refl found
+  where
+    by : (unwrap_or (option_map (λ c. c.aged) (find (λ c. same_pmac c.pmac x) addresses)) false ≡ true →
+        AllByRecursion (λ c. same_pmac c.pmac x ≡ true → c.aged ≡ true) addresses) → (b : Bool) → same_pmac a.pmac x ≡ b →
+        unwrap_or (option_map (λ (c : LearntAddress). c.aged) (cond b (Some a) (find (λ c. same_pmac c.pmac x) addresses))) false ≡ true →
+        AllByRecursion (λ c. same_pmac c.pmac x ≡ true → c.aged ≡ true) (a ∷ addresses)
+    by rest true is aged = (λ same. aged, others_aged x a.pmac addresses once.0 (pmac_is a.pmac x is))
+    by rest false other k = (λ same. absurd (false≢true (sym other ∙ same)), rest k)
+
+kept_one : (x : Pmac) (learnt : Learnt) → can_release learnt x ≡ false → releases x learnt ≡ nothing_said learnt
+kept_one x learnt kept = ap (λ b. cond {A = LearntStep} b (releases_as x learnt (registration learnt x)) (nothing_said learnt)) kept
+
+kept_both : (x : Pmac) (learnt : Learnt) (o : Option Recall) → can_release learnt x ≡ false → IsKeptBehind learnt o → releases_both x o learnt ≡ nothing_said learnt
+kept_both x learnt None kept behind = ap (λ (step : LearntStep). let both : LearntStep = record { learnt = step.learnt; acts = step.acts ++ [] } in both) (kept_one x learnt kept)
+kept_both x learnt (Some recall) kept behind =
+    ap (λ (step : LearntStep).
+    let both : LearntStep = record { learnt = (releases recall.new step.learnt).learnt; acts = step.acts ++ (releases recall.new step.learnt).acts } in both)
+    (kept_one x learnt kept)
+    ∙ ap (λ (step : LearntStep). let both : LearntStep = record { learnt = step.learnt; acts = [] ++ step.acts } in both) (kept_one recall.new learnt behind)
+
+aged_same : (learnt : Learnt) (x : Pmac) (n : ℕ) → IsDistinct same_pmac (map (λ a. a.pmac) learnt.addresses) → (counts learnt x n ≡ true → IsCounted learnt x) →
+    hears_aged learnt x n ≡ nothing_said learnt
+aged_same learnt x n once last = by (counts learnt x n) refl
+  where
+    by : (b : Bool) → counts learnt x n ≡ b →
+        cond {A = LearntStep} b (releases_both x (recall_of learnt x) (with_aged learnt x)) (nothing_said learnt) ≡ nothing_said learnt
+    by true is =
+        let it = last is in
+        ap (λ addresses. releases_both x (recall_of learnt x) (record learnt { addresses = addresses }))
+        (all_age_again x learnt.addresses (found_aged x learnt.addresses once it.aged))
+        ∙ kept_both x learnt (recall_of learnt x) it.kept it.led
+    by false void = refl
+
 -- ---- the whole step
 pub view_same : (view : ManagerView) (s : SwitchId) (says : ToManager) → TablesAreInOrder view → HasToldLast view s says → view_after view s says ≡ view
 view_same view s (tell.Place place) order last =
@@ -136,24 +198,26 @@ view_same view s tell.PodWanted order last =
     ap (λ b. record view { askers = cond b view.askers (s ∷ view.askers) })
     (found_any (λ g. g.pod) (λ g. same_switch g.switch s) (pods_given view.askers) last)
 view_same view s (tell.Learned pmac amac ip) order last = ap (λ learnt. record view { learnt = learnt }) (told_same view s pmac amac ip order last.0 last.1)
+view_same view s (tell.Aged pmac number) order last = ap (λ learnt. record view { learnt = learnt }) (ap (λ (step : LearntStep). step.learnt) (aged_same view.learnt pmac number order.addresses last))
 view_same view s (tell.Query asker asker_ip ip) order last = refl
 view_same view s (tell.Members group any) order last =
     ap (λ table. record view { members = table }) (put_again members_cmp members_total members_exact view.members (s, group) any order.members last)
 
-only_answers : (view : ManagerView) (s : SwitchId) (says : ToManager) → HasToldLast view s says → reply view view s says ≡ answers view s says
-only_answers view s (tell.Place place) last = refl
-only_answers view s (tell.Link u usable) last = refl
-only_answers view s tell.PodWanted last = refl
-only_answers view s (tell.Learned pmac amac ip) last =
+only_answers : (view : ManagerView) (s : SwitchId) (says : ToManager) → TablesAreInOrder view → HasToldLast view s says → reply view view s says ≡ answers view s says
+only_answers view s (tell.Place place) order last = refl
+only_answers view s (tell.Link u usable) order last = refl
+only_answers view s tell.PodWanted order last = refl
+only_answers view s (tell.Learned pmac amac ip) order last =
     let n = view.learnt.count + 1 in
     ap (λ b. cond b [] (Number pmac n ∷ invalidation view.learnt pmac n (newest view.learnt amac)))
     (any_where_found (λ r. same_pmac r.pmac pmac) (registry view.learnt) last.0)
-only_answers view s (tell.Query asker asker_ip ip) last = refl
-only_answers view s (tell.Members group any) last = refl
+only_answers view s (tell.Aged pmac number) order last = ap (λ (step : LearntStep). step.acts) (aged_same view.learnt pmac number order.addresses last)
+only_answers view s (tell.Query asker asker_ip ip) order last = refl
+only_answers view s (tell.Members group any) order last = refl
 
-acts_same : (view : ManagerView) (s : SwitchId) (says : ToManager) → HasToldLast view s says → acts_of view view s says ≡ answers view s says
-acts_same view s says last =
-    (λ i. only_answers view s says last i ++ no_avoid_acts view.told i ++ no_tree_acts view i)
+acts_same : (view : ManagerView) (s : SwitchId) (says : ToManager) → TablesAreInOrder view → HasToldLast view s says → acts_of view view s says ≡ answers view s says
+acts_same view s says order last =
+    (λ i. only_answers view s says order last i ++ no_avoid_acts view.told i ++ no_tree_acts view i)
     ∙ append-nil (answers view s says ++ []) ∙ append-nil (answers view s says)
 
 pub nothing_changes : (view : ManagerView) (s : SwitchId) (says : ToManager) → TablesAreInOrder view → HasToldLast view s says →
@@ -162,4 +226,4 @@ unfolding manager_hears
 nothing_changes view s says order last =
     let same = view_same view s says order last in
     (λ i. let step : ManagerStep = record { view = same i; acts = acts_of view (same i) s says } in step)
-    ∙ ap (λ acts. let step : ManagerStep = record { view = view; acts = acts } in step) (acts_same view s says last)
+    ∙ ap (λ acts. let step : ManagerStep = record { view = view; acts = acts } in step) (acts_same view s says order last)

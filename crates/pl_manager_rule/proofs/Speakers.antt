@@ -1,18 +1,20 @@
 -- With each message the fabric manager hears of no switch but the one that speaks.
-use Rattle.std.proofs.Common.{◌≡◌, ◌⊎◌, ◌||◌, Bool, true, false, cond, List, [], ◌∷◌, ◌++◌, map, None, Option, Ordering, Some, refl, ap, subst, inl, inr, ◌∙◌, ◌+◌}
+use Rattle.std.proofs.Common.{◌≡◌, ◌⊎◌, ◌||◌, ℕ, Bool, true, false, cond, not, List, [], ◌∷◌, ◌++◌, filter, map, None, Ordering, Some, refl, ap, subst, inl, inr, ◌∙◌, ◌+◌}
 use Rattle.std.specs.List.{find, list_any}
 use Rattle.std.specs.BTreeMap.{insert_entry}
 use Rattle.std.proofs.lemmas.Bool.{cond_both, or_cases, or_left, or_right}
 use Rattle.pl_lemmas.proofs.Exports.{option_map_some}
 use Rattle.pl_frame.specs.declared.address.Mac.{Mac}
 use Rattle.pl_frame.specs.declared.address.SwitchId.{SwitchId}
-use Rattle.pl_layouts.specs.Equality.{same_switch}
+use Rattle.pl_pmac.specs.declared.pmac.Pmac.{Pmac}
+use Rattle.pl_layouts.specs.Equality.{same_pmac, same_switch}
 use Rattle.pl_layouts.proofs.Exports.{switch_itself}
 use Rattle.pl_node.specs.declared.messages.ToManager.{ToManager}
 use Rattle.pl_node.specs.declared.messages.ToManager.TheVariants as tell
-use Rattle.pl_node.specs.ManagerViews.{Learnt, LearntAddress, ManagerView, Registration, id_cmp, is_heard, is_newest_of, link_cmp, members_cmp, newest, pods_given, registered_as, speakers, switches, tellers}
-use Rattle.pl_node.proofs.Exports.{among_append, among_left, among_map, among_mapped, among_ordered, among_right, any_among, IsAmong}
-use Rattle.pl_manager_rule.specs.ManagerRule.{ToldAddress, is_registered, learnt_as, recalled, told_again, view_after, with_address, with_asker}
+use Rattle.pl_node.specs.ManagerViews.{Learnt, LearntAddress, ManagerView, Registration, id_cmp, is_heard, is_newest_of, link_cmp, members_cmp, newest, pods_given, registered_as, registration, speakers, switches, tellers}
+use Rattle.pl_node.proofs.Exports.{among_append, among_filter, among_left, among_map, among_mapped, among_ordered, among_right, any_among, IsAmong}
+use Rattle.pl_manager_rule.specs.ManagerRule.{ToldAddress, ages_now, hears_aged, is_registered, learnt_as, recalled, told_again, view_after, with_address, with_asker}
+use Rattle.pl_manager_rule.proofs.Aging.{aged_keeps}
 use Rattle.pl_manager_rule.proofs.Tables.{among_put}
 use Rattle.pl_manager_rule.proofs.Avoided.{same_is}
 use Rattle.pl_manager_rule.proofs.Learning.{same_field, same_recalled}
@@ -66,6 +68,17 @@ address_ones learnt new =
     (λ first t h. subst (λ ss. (new.switch ≡ t) ⊎ IsAmong t ss)
     (same_recalled (λ a. a.switch) (λ old x number a. refl) (newest learnt new.amac) new.pmac n learnt.addresses) h)
 
+-- once an address has aged none is there that was not before
+aged_tellers : (learnt : Learnt) (x : Pmac) (n : ℕ) (t : SwitchId) → IsAmong t (map (λ a. a.switch) (hears_aged learnt x n).learnt.addresses) →
+    IsAmong t (map (λ a. a.switch) learnt.addresses)
+aged_tellers learnt x n = aged_keeps (λ l. (t : SwitchId) → IsAmong t (map (λ (a : LearntAddress). a.switch) l.addresses) → IsAmong t (map (λ a. a.switch) learnt.addresses))
+    (λ l y was t h. was t (subst (IsAmong t) (same_field (λ a. a.switch) (ages_now y) (λ a. refl) l.addresses) h))
+    (λ l y was t h.
+    let at = among_map (λ (a : LearntAddress). a.switch) t (filter (λ a. not (same_pmac a.pmac y)) l.addresses) h in
+    was t (subst (λ u. IsAmong u (map (λ (a : LearntAddress). a.switch) l.addresses)) at.2
+    (among_mapped (λ (a : LearntAddress). a.switch) at.0 l.addresses (among_filter (λ (a : LearntAddress). not (same_pmac a.pmac y)) at.0 l.addresses at.1).0)))
+    learnt x n (λ t h. h)
+
 -- ---- the switches of which something is known
 module _ (view : ManagerView) (s : SwitchId) where
   abbrev places : List SwitchId
@@ -101,6 +114,10 @@ module _ (view : ManagerView) (s : SwitchId) where
       with_one places links members view.askers _ (same_ones s places)
       (same_ones s links) (same_ones s members) (same_ones s view.askers)
       (address_ones view.learnt (record { switch = s; pmac = pmac; amac = amac; ip = ip }))
+  speakers_after (tell.Aged pmac number) =
+      with_one places links members view.askers _ (same_ones s places)
+      (same_ones s links) (same_ones s members) (same_ones s view.askers)
+      (λ t h. inr (aged_tellers view.learnt pmac number t h))
   speakers_after (tell.Query asker asker_ip ip) = same_ones s (speakers view)
   speakers_after (tell.Members group any) =
       with_one places links _ view.askers learners (same_ones s places)
@@ -133,6 +150,13 @@ known_among t (x ∷ xs) h = elim (or_cases (same_switch x t) (list_any (λ c. s
 pub heard_after : (view : ManagerView) (s t : SwitchId) (says : ToManager) → is_heard (view_after view s says) t ≡ true →
     (same_switch s t || is_heard view t) ≡ true
 heard_after view s t says h = now_or_before view s t (speakers_after view s says t (known_among t (speakers (view_after view s says)) h))
+
+-- the switch that told a registered address
+pub registered_heard : (learnt : Learnt) (x : Pmac) (r : Registration) → registration learnt x ≡ Some r → IsAmong r.switch (map (λ a. a.switch) learnt.addresses)
+registered_heard learnt x r is =
+    let at = among_map registered_as r learnt.addresses (found_among (λ r. same_pmac r.pmac x) r (map registered_as learnt.addresses) is) in
+    subst (λ t. IsAmong t (map (λ a. a.switch) learnt.addresses)) (ap (λ (q : Registration). q.switch) at.2)
+    (among_mapped (λ (a : LearntAddress). a.switch) at.0 learnt.addresses at.1)
 
 -- the switch that told the newest address of a host
 pub newest_heard : (learnt : Learnt) (amac : Mac) (r : Registration) → newest learnt amac ≡ Some r → IsAmong r.switch (map (λ a. a.switch) learnt.addresses)

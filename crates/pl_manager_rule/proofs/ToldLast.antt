@@ -15,7 +15,7 @@ use Rattle.pl_node.specs.HostViews.{ip_cmp}
 use Rattle.pl_node.specs.ManagerViews.{Learnt, LearntAddress, ManagerView, id_cmp, link_cmp, members_cmp, newest, registered_as, registration, registry}
 use Rattle.pl_node.proofs.Exports.{id_total}
 use Rattle.pl_manager_rule.specs.ManagerRule.{ToldAddress, host_of, is_registered, learnt_as, manager_hears, recalled, told_again, view_after, with_address, with_learnt}
-use Rattle.pl_manager_rule.specs.Repeats.{HasToldLast, IsKnownAddress}
+use Rattle.pl_manager_rule.specs.Repeats.{CanBeRepeated, HasToldLast, IsKnownAddress}
 use Rattle.pl_manager_rule.proofs.Kept.{ip_total, link_total, members_total}
 use Rattle.pl_manager_rule.proofs.Learning.{any_registered, found_where_any, host_now, registry_after}
 use Rattle.pl_manager_rule.proofs.Registered.{asker_has_pod}
@@ -66,17 +66,18 @@ known_now learnt s pmac amac (Some ip) =
       value_put ip_cmp ip_total learnt.owners ip (host_of learnt new) ∙ sym (host_now learnt new),
     )
 
-last_now : (view : ManagerView) (s : SwitchId) (says : ToManager) → HasToldLast (view_after view s says) s says
-last_now view s (tell.Place place) = value_put id_cmp id_total view.told.places s place
-last_now view s (tell.Link u usable) = value_put link_cmp link_total view.told.links (s, u) usable
-last_now view s tell.PodWanted = asker_has_pod view.askers s
-last_now view s (tell.Learned pmac amac ip) = (
+last_now : (view : ManagerView) (s : SwitchId) (says : ToManager) → CanBeRepeated says → HasToldLast (view_after view s says) s says
+last_now view s (tell.Place place) can = value_put id_cmp id_total view.told.places s place
+last_now view s (tell.Link u usable) can = value_put link_cmp link_total view.told.links (s, u) usable
+last_now view s tell.PodWanted can = asker_has_pod view.askers s
+last_now view s (tell.Learned pmac amac ip) can = (
   registered_now view.learnt (record { switch = s; pmac = pmac; amac = amac; ip = ip }),
   known_now view.learnt s pmac amac ip,
 )
-last_now view s (tell.Query asker asker_ip ip) = tt
-last_now view s (tell.Members group any) = value_put members_cmp members_total view.members (s, group) any
+last_now view s (tell.Aged pmac number) can = absurd can
+last_now view s (tell.Query asker asker_ip ip) can = tt
+last_now view s (tell.Members group any) can = value_put members_cmp members_total view.members (s, group) any
 
-pub told_is_last : (view : ManagerView) (s : SwitchId) (says : ToManager) → HasToldLast (manager_hears view s says).view s says
+pub told_is_last : (view : ManagerView) (s : SwitchId) (says : ToManager) → CanBeRepeated says → HasToldLast (manager_hears view s says).view s says
 unfolding manager_hears
-told_is_last view s says = last_now view s says
+told_is_last view s says can = last_now view s says can

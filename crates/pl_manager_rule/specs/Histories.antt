@@ -1,16 +1,20 @@
 -- What the switches told the fabric manager since boot, all of it: the newest word stands first.
-use Rattle.std.specs.Prelude.{ℕ, ◌+◌, ◌==◌, Bool, false, if◌then◌else◌, List, [], ◌∷◌, length, Option, Some, None}
-use Rattle.std.specs.List.{list_any}
-use Rattle.std.specs.Option.{option_or}
+use Rattle.std.specs.Prelude.{ℕ, ◌+◌, ◌==◌, Bool, false, not, if◌then◌else◌, List, [], ◌∷◌, ◌++◌, length, Option, Some, None, is_some}
+use Rattle.std.specs.List.{filter, list_any}
+use Rattle.std.specs.Option.{option_map_or, option_or}
 use Rattle.pl_frame.specs.declared.address.Ip4.{Ip4}
+use Rattle.pl_frame.specs.declared.address.Mac.{Mac}
 use Rattle.pl_frame.specs.declared.address.SwitchId.{SwitchId}
 use Rattle.pl_pmac.specs.declared.pmac.Pmac.{Pmac}
 use Rattle.pl_layouts.specs.declared.place.Place.{Place}
 use Rattle.pl_layouts.specs.Equality.{is_ip, same_pmac, same_switch}
+use Rattle.pl_node.specs.declared.acts.ManagerAct.{ManagerAct}
+use Rattle.pl_node.specs.declared.acts.ManagerAct.TheVariants.{Say}
 use Rattle.pl_node.specs.declared.messages.ToManager.{ToManager}
 use Rattle.pl_node.specs.declared.messages.ToManager.TheVariants as tell
-use Rattle.pl_node.specs.ManagerViews.{ManagerView, PodGiven, Registration, booted_manager}
-use Rattle.pl_manager_rule.specs.ManagerRule.{manager_hears}
+use Rattle.pl_node.specs.declared.messages.ToSwitch.TheVariants as say
+use Rattle.pl_node.specs.ManagerViews.{Learnt, ManagerView, PodGiven, Registration, booted_manager, registration}
+use Rattle.pl_manager_rule.specs.ManagerRule.{host_of, manager_hears}
 
 -- a switch told this
 pub record Word : Type 0 where
@@ -51,11 +55,6 @@ abbrev pub ip_said : Pmac → ToManager → Option Ip4
 ip_said x (tell.Learned pmac amac ip) = if same_pmac pmac x then ip else None
 ip_said x says = None
 
--- with which pseudo address it names this IPv4 address
-abbrev pub owner_said : Ip4 → ToManager → Option Pmac
-owner_said ip (tell.Learned pmac amac told) = if is_ip told ip then Some pmac else None
-owner_said ip says = None
-
 -- a switch that asks for the first time is given the next pod
 abbrev pub pods_after : List PodGiven → SwitchId → ToManager → List PodGiven
 pods_after pods s tell.PodWanted =
@@ -67,14 +66,52 @@ abbrev pub pods_asked : List Word → List PodGiven
 pods_asked [] = []
 pods_asked (w ∷ before) = pods_after (pods_asked before) w.switch w.says
 
--- an address that is told for the first time is given the next number
-abbrev pub registered_after : List Registration → SwitchId → ToManager → List Registration
-registered_after rs s (tell.Learned pmac amac ip) =
-    if list_any (λ r. same_pmac r.pmac pmac) rs then rs
-    else record { pmac = pmac; amac = amac; number = length rs + 1; switch = s } ∷ rs
-registered_after rs s says = rs
+-- ---- addresses: which were numbered, and which were released since
+abbrev pub releases_address : Pmac → ManagerAct → Bool
+releases_address x (Say to (say.Release pmac)) = same_pmac pmac x
+releases_address x act = false
 
--- the addresses that were told, in the order of telling, the last one first
-abbrev pub registered : List Word → List Registration
-registered [] = []
-registered (w ∷ before) = registered_after (registered before) w.switch w.says
+-- what the manager does when a word comes behind these
+abbrev pub acts_at : ℕ → List Word → Word → List ManagerAct
+acts_at k before w = (manager_hears (known k before) w.switch w.says).acts
+
+-- a word releases an address
+abbrev pub is_released_by : ℕ → List Word → Word → Pmac → Bool
+is_released_by k before w x = list_any (releases_address x) (acts_at k before w)
+
+-- the addresses that have the number that is given next, where this is told
+abbrev pub numbered_by_word : Learnt → SwitchId → ToManager → List Registration
+numbered_by_word learnt s (tell.Learned pmac amac ip) =
+    if is_some (registration learnt pmac) then [] else record { pmac = pmac; amac = amac; number = learnt.count + 1; switch = s } ∷ []
+numbered_by_word learnt s says = []
+
+-- the addresses that were given numbers, in the order of these, the last one first; one that was released and told again is there twice
+abbrev pub numbered : ℕ → List Word → List Registration
+numbered k [] = []
+numbered k (w ∷ before) = numbered_by_word (known k before).learnt w.switch w.says ++ numbered k before
+
+-- those of them that were not released since
+abbrev pub registered : ℕ → List Word → List Registration
+registered k [] = []
+registered k (w ∷ before) =
+    numbered_by_word (known k before).learnt w.switch w.says ++ filter (λ r. not (is_released_by k before w r.pmac)) (registered k before)
+
+-- of a registration that was given once: it stands still
+abbrev pub if_still : Learnt → Registration → Option Registration
+if_still learnt r = if option_map_or (λ now. now.number == r.number) (registration learnt r.pmac) false then Some r else None
+
+-- which IPv4 address was said last of a pseudo address since it was last released
+abbrev pub ip_since : ℕ → List Word → Pmac → Option Ip4
+ip_since k [] x = None
+ip_since k (w ∷ before) x = if is_released_by k before w x then None else option_or (ip_said x w.says) (ip_since k before x)
+
+-- the host of the pseudo address with which a word names this IPv4 address
+abbrev pub owner_said : Learnt → Ip4 → SwitchId → ToManager → Option Mac
+owner_said learnt ip s (tell.Learned pmac amac told) =
+    if is_ip told ip then Some (host_of learnt (record { switch = s; pmac = pmac; amac = amac; ip = told })) else None
+owner_said learnt ip s says = None
+
+-- and the last that was named so
+abbrev pub owner_told : ℕ → List Word → Ip4 → Option Mac
+owner_told k [] ip = None
+owner_told k (w ∷ before) ip = option_or (owner_said (known k before).learnt ip w.switch w.says) (owner_told k before ip)

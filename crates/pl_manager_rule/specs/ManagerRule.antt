@@ -1,5 +1,5 @@
 -- What the fabric manager does when it hears a switch.
-use Rattle.std.specs.Prelude.{◌≡◌, ℕ, ◌+◌, ◌&&◌, not, Bool, true, false, if◌then◌else◌, List, [], ◌∷◌, ◌++◌, map, Option, Some, None, unwrap_or}
+use Rattle.std.specs.Prelude.{◌≡◌, ℕ, ◌+◌, ◌==◌, ◌&&◌, ◌||◌, not, is_some, Bool, true, false, if◌then◌else◌, List, [], ◌∷◌, ◌++◌, map, Option, Some, None, unwrap_or}
 use Rattle.std.specs.List.{filter, flat_map, list_any}
 use Rattle.std.specs.Option.{option_map, option_or}
 use Rattle.std.specs.Ordering.{eq_by_cmp}
@@ -19,7 +19,7 @@ use Rattle.pl_node.specs.declared.messages.ToSwitch.{ToSwitch}
 use Rattle.pl_node.specs.declared.messages.ToSwitch.TheVariants as say
 use Rattle.pl_node.specs.declared.messages.TreePart.{TreePart}
 use Rattle.pl_node.specs.HostViews.{ip_cmp}
-use Rattle.pl_node.specs.ManagerViews.{Told, Learnt, LearntAddress, ManagerView, Registration, id_cmp, ip_of, link_cmp, lookup, members_cmp, newest, pod_given, pods_given, registered_as, registration, registry, switches}
+use Rattle.pl_node.specs.ManagerViews.{Told, Learnt, LearntAddress, ManagerView, Recall, Registration, has_aged, id_cmp, ip_of, is_led_to, link_cmp, lookup, members_cmp, newest, number_behind, pod_given, pods_given, recall_of, registered_as, registration, registry, switches}
 use Rattle.pl_node.specs.AvoidLists.{avoid_list, avoided_cmp}
 use Rattle.pl_node.specs.Trees.{tree_part}
 use Rattle.pl_node.specs.ManagerDuties.{ManagerRule}
@@ -89,6 +89,57 @@ with_learnt learnt new = record {
   count = if is_registered learnt.addresses new.pmac then learnt.count else learnt.count + 1;
 }
 
+-- what is known once something was said of an address, and what is said then
+pub record LearntStep : Type 0 where
+  pub learnt : Learnt
+  pub acts : List ManagerAct
+
+abbrev pub nothing_said : Learnt → LearntStep
+nothing_said learnt = record { learnt = learnt; acts = [] }
+
+-- That a registered address has aged counts where the number is the one behind which it ages now. Else it is void: a newer address of its host was
+-- said to its switch since.
+abbrev pub counts : Learnt → Pmac → ℕ → Bool
+counts learnt x number = is_some (registration learnt x) && (number == number_behind (recall_of learnt x))
+
+abbrev pub ages_now : Pmac → LearntAddress → LearntAddress
+ages_now x a = record a { aged = same_pmac a.pmac x || a.aged }
+
+abbrev pub with_aged : Learnt → Pmac → Learnt
+with_aged learnt x = record learnt { addresses = map (ages_now x) learnt.addresses }
+
+-- an address that has aged, and to which no trap leads that stands
+abbrev pub can_release : Learnt → Pmac → Bool
+can_release learnt x = has_aged learnt x && not (is_led_to learnt x)
+
+abbrev pub forgets : Learnt → Pmac → Learnt
+forgets learnt x = record learnt { addresses = filter (λ a. not (same_pmac a.pmac x)) learnt.addresses }
+
+-- it is forgotten, with its number, and the switch that told it may give it again
+abbrev pub releases_as : Pmac → Learnt → Option Registration → LearntStep
+releases_as x learnt None = nothing_said learnt
+releases_as x learnt (Some reg) = record { learnt = forgets learnt x; acts = Say reg.switch (say.Release x) ∷ [] }
+
+abbrev pub releases : Pmac → Learnt → LearntStep
+releases x learnt = if can_release learnt x then releases_as x learnt (registration learnt x) else nothing_said learnt
+
+-- the address to which a trap led that has ended may be released then
+abbrev pub releases_led : Option Recall → Learnt → LearntStep
+releases_led None learnt = nothing_said learnt
+releases_led (Some recall) learnt = releases recall.new learnt
+
+-- an address has aged: first it is released itself, and then the one to which its trap led
+abbrev pub releases_both : Pmac → Option Recall → Learnt → LearntStep
+releases_both x recall learnt = let own = releases x learnt in record {
+  learnt = (releases_led recall own.learnt).learnt;
+  acts = own.acts ++ (releases_led recall own.learnt).acts;
+}
+
+-- An edge switch tells that an address has aged there.
+abbrev pub hears_aged : Learnt → Pmac → ℕ → LearntStep
+hears_aged learnt x number =
+    if counts learnt x number then releases_both x (recall_of learnt x) (with_aged learnt x) else nothing_said learnt
+
 -- the view once this was told: a later word takes the place of the one before, and a question leaves no trace
 abbrev pub view_after : ManagerView → SwitchId → ToManager → ManagerView
 view_after view s (tell.Place place) = record view { told = with_place view.told s place }
@@ -96,6 +147,7 @@ view_after view s (tell.Link u usable) = record view { told = with_link view.tol
 view_after view s tell.PodWanted = record view { askers = with_asker view.askers s }
 view_after view s (tell.Learned pmac amac ip) =
     record view { learnt = with_learnt view.learnt (record { switch = s; pmac = pmac; amac = amac; ip = ip }) }
+view_after view s (tell.Aged pmac number) = record view { learnt = (hears_aged view.learnt pmac number).learnt }
 view_after view s (tell.Query asker asker_ip ip) = view
 view_after view s (tell.Members group any) = record view { members = insert_entry members_cmp view.members (s, group) any }
 
@@ -121,6 +173,7 @@ answer_to asker asker_ip ip (Some pmac) = say.Answer asker asker_ip ip pmac
 abbrev pub reply : ManagerView → ManagerView → SwitchId → ToManager → List ManagerAct
 reply before after s tell.PodWanted = Say s (say.Pod (unwrap_or (pod_given after.askers s) 0)) ∷ []
 reply before after s (tell.Learned pmac amac ip) = learning before.learnt after.learnt pmac amac
+reply before after s (tell.Aged pmac number) = (hears_aged before.learnt pmac number).acts
 reply before after s (tell.Query asker asker_ip ip) = Say s (answer_to asker asker_ip ip (lookup after.learnt ip)) ∷ []
 reply before after s says = []
 

@@ -1,4 +1,4 @@
-ghost use Rattle.std.specs.Prelude.{◌≡◌, ◌↔◌, ℕ, List, Contains, reverse, find, length, map, Option, option_map, IfSome, IsSome, IsTrue};
+ghost use Rattle.std.specs.Prelude.{◌≡◌, ◌↔◌, ℕ, List, Contains, reverse, find, length, map, Option, IfSome, IsSome, IsTrue};
 ghost use Rattle.std.specs.List.{IsDistinct, range_with_len};
 ghost use Rattle.std.specs.List.Sorted.{IsStrictlySortedBy};
 ghost use Rattle.std.specs.Option.{option_and_then};
@@ -13,8 +13,8 @@ ghost use Rattle.pl_manager_rule.specs.ManagerRule.{manager_hears, manager_rule,
 ghost use Rattle.pl_frame.specs.declared.address.Ip4.{Ip4};
 ghost use Rattle.pl_frame.specs.declared.address.Mac.{Mac};
 ghost use Rattle.pl_pmac.specs.declared.pmac.Pmac.{Pmac};
-ghost use Rattle.pl_manager_rule.specs.Histories.{Word, ip_said, known, link_said, members_said, owner_said, place_said, pods_asked, registered, said_by, said_last};
-ghost use Rattle.pl_manager_rule.specs.Repeats.{HasToldLast, TablesAreInOrder, answers};
+ghost use Rattle.pl_manager_rule.specs.Histories.{Word, if_still, ip_since, known, link_said, members_said, numbered, owner_told, place_said, pods_asked, registered, said_by, said_last};
+ghost use Rattle.pl_manager_rule.specs.Repeats.{CanBeRepeated, HasToldLast, TablesAreInOrder, answers};
 ghost use Rattle.pl_node.specs.declared.messages.ToManager.{ToManager};
 ghost use Rattle.pl_node.specs.ManagerFacts.{groups};
 ghost use Rattle.pl_node.specs.ManagerDuties.{AnswersDuly};
@@ -49,10 +49,10 @@ pub fn a_change_is_seen()
     ensures part { (x y : Option TreePart) → IsTrue (same_part x y) ↔ (x ≡ y) }
 {}
 
-/// Addresses have the numbers 1, 2, 3 and so on in the order in which they were first learnt, each
-/// address once.
+/// Addresses are given the numbers 1, 2, 3 and so on in the order in which they are learnt; one that was
+/// released is given another when it is learnt again. Each is registered once.
 pub fn addresses_are_numbered_in_order()
-    ensures numbers { (k : ℕ) (words : List Word) → reverse (map (λ r. r.number) (registry (known k words).learnt))
+    ensures numbers { (k : ℕ) (words : List Word) → reverse (map (λ r. r.number) (numbered k words))
         ≡ range_with_len 1 (known k words).learnt.count }
     ensures once { (k : ℕ) (words : List Word) → IsDistinct same_pmac (map (λ r. r.pmac) (registry (known k words).learnt)) }
 {}
@@ -81,16 +81,19 @@ pub fn what_is_known_stays_in_order()
 {}
 
 /// A word that a switch told last already changes nothing that is known and brings no act about: only a
-/// wish for a pod and a question are answered again. And each word is told last once it was heard.
+/// wish for a pod and a question are answered again. And each word but that an address has aged is told last
+/// once it was heard.
 pub fn a_repeated_word_changes_nothing()
     ensures nothing { (view : ManagerView) (s : SwitchId) (says : ToManager) → TablesAreInOrder view → HasToldLast view s says →
         manager_hears view s says ≡ record { view = view; acts = answers view s says } }
-    ensures last { (view : ManagerView) (s : SwitchId) (says : ToManager) → HasToldLast (manager_hears view s says).view s says }
+    ensures last { (view : ManagerView) (s : SwitchId) (says : ToManager) → CanBeRepeated says → HasToldLast (manager_hears view s says).view s says }
 {}
 
-/// What the manager knows, however long its history, is the last that was said of each place, link, group and
-/// IPv4 address, whose owner is the host of the address with which it was told last; the pods and the addresses, in
-/// the order of first asking and of first telling; and the address of each host that was told last for the first time.
+/// What the manager knows, however long its history, is the last that was said of each place, link and group;
+/// the pods in the order of first asking; the addresses that were given numbers and not released since; of each
+/// the IPv4 address that was said last with it since then; the host of the address with which an IPv4 address
+/// was told last; and as the newest address of a host the last of it that was given a number, unless that was
+/// released.
 pub fn what_is_known_is_what_was_told_last()
     ensures places { (k : ℕ) (words : List Word) (s : SwitchId) →
         value_at id_cmp (known k words).told.places s ≡ said_last (said_by s place_said) words }
@@ -99,12 +102,9 @@ pub fn what_is_known_is_what_was_told_last()
     ensures members { (k : ℕ) (words : List Word) (s : SwitchId) (group : ℕ) →
         value_at members_cmp (known k words).members (s, group) ≡ said_last (said_by s (members_said group)) words }
     ensures pods { (k : ℕ) (words : List Word) → pods_given (known k words).askers ≡ pods_asked words }
-    ensures registrations { (k : ℕ) (words : List Word) → registry (known k words).learnt ≡ registered words }
+    ensures registrations { (k : ℕ) (words : List Word) → registry (known k words).learnt ≡ registered k words }
     ensures newest { (k : ℕ) (words : List Word) (amac : Mac) →
-        newest (known k words).learnt amac ≡ find (λ r. same_mac r.amac amac) (registered words) }
-    ensures ips { (k : ℕ) (words : List Word) (x : Pmac) →
-        ip_of (known k words).learnt x ≡ said_last (λ w. ip_said x w.says) words }
-    ensures owners { (k : ℕ) (words : List Word) (ip : Ip4) →
-        owner (known k words).learnt ip
-        ≡ option_map (λ r. r.amac) (option_and_then (registration (known k words).learnt) (said_last (λ w. owner_said ip w.says) words)) }
+        newest (known k words).learnt amac ≡ option_and_then (if_still (known k words).learnt) (find (λ r. same_mac r.amac amac) (numbered k words)) }
+    ensures ips { (k : ℕ) (words : List Word) (x : Pmac) → ip_of (known k words).learnt x ≡ ip_since k words x }
+    ensures owners { (k : ℕ) (words : List Word) (ip : Ip4) → owner (known k words).learnt ip ≡ owner_told k words ip }
 {}

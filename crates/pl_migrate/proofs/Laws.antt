@@ -8,19 +8,21 @@ use Rattle.std.proofs.lemmas.Option.{get_or_from_slice_get, same_Some, slice_get
 use Rattle.std.proofs.lemmas.Slice.Eq.{bytes_eq-Decides}
 use Rattle.pl_frame.specs.declared.address.Mac.{Mac}
 use Rattle.pl_pmac.specs.declared.pmac.Pmac.{Pmac}
-use Rattle.pl_node.specs.AddressUses.{is_in_use}
+use Rattle.pl_node.specs.AddressUses.{is_held, is_in_use}
+use Rattle.pl_node.specs.declared.address_use.AddressUse.{AddressUse}
+use Rattle.pl_node.specs.declared.address_use.AddressUse.TheVariants.{Free, InUse, Resting, Trapped}
 use Rattle.pl_node.specs.declared.switch_records.Grant.{Grant}
 use Rattle.pl_node.specs.declared.trap.Trap.{Trap}
-use Rattle.pl_node.specs.Traps.{newer_trap}
 use Rattle.pl_layouts.specs.Equality.{same_mac}
-use Rattle.pl_switch_rule.specs.Granting.{grant_number, in_use}
+use Rattle.pl_switch_rule.specs.Granting.{grant_number, in_use, unless_free}
 use Rattle.pl_migrate.specs.AddressTables.{AddressTableView, address_in, address_in_use, granted_in, grantee_at, grants_of, is_used, numbered}
 use Rattle.pl_migrate.specs.declared.grantee.Grantee.{Grantee}
-use Rattle.pl_migrate.specs.Keeping.{IsHostsOwn, sets_trap_on, trap_standing, StandsOf}
-use Rattle.pl_migrate.specs.PortGrants.{AtMostOne, is_used_by}
+use Rattle.pl_migrate.specs.Keeping.{IsHostsOwn, StandsOf, newer_trap, sets_trap_on, trap_standing}
+use Rattle.pl_migrate.specs.PortGrants.{AtMostOne}
 use Rattle.pl_migrate.proofs.Changes.{granted_itself, here_is_same, is_granted_here, is_here_itself}
 use Rattle.pl_migrate.proofs.Numbers.{is_numbered}
 use Rattle.pl_migrate.proofs.OneEach.{found_at}
+use Rattle.pl_migrate.proofs.PortUses.{uses_grant}
 
 -- An address in use.
 
@@ -55,11 +57,20 @@ found_item test k n (x ∷ xs) found = elim (cases_Bool (test x)) [
 abbrev granted_to : Mac → ℕ → Grantee
 granted_to amac port = record { amac = amac; port = port }
 
+used_held : (held : AddressUse) → is_in_use held ≡ true → is_held held ≡ true
+used_held (InUse idle) used = refl
+used_held (Trapped trap age) used = refl
+used_held (Resting number) used = refl
+used_held Free used = used
+
+used_unfree : (grant : Grant) → is_in_use grant.held ≡ true → unless_free (Some grant) ≡ Some grant
+used_unfree grant used = cond-true (is_held grant.held) (Some grant) None (used_held grant.held used)
+
 in_use_is_own : (address_table : AddressTableView) (port : ℕ) (amac : Mac) (o : Option ℕ) (address : Pmac) → in_use (grants_of address_table port) amac ≡ o →
     numbered address_table port o ≡ Some address → IsHostsOwn address_table port amac address
 in_use_is_own address_table port amac None address used found = absurd (let e = found in cc)
 in_use_is_own address_table port amac (Some vmid) address used found =
-    let is = found_item (is_used_by amac) 1 vmid (grants_of address_table port) used in
+    let is = found_item (uses_grant amac) 1 vmid (grants_of address_table port) used in
     let from = is.from in
     let parts = and_parts (is_in_use is.item.held) (same_mac is.item.amac amac) is.passes in
     let at : granted_in address_table address ≡ Some is.item =
@@ -67,7 +78,8 @@ in_use_is_own address_table port amac (Some vmid) address used found =
     ∙ ap (λ b. cond b None (slice_get (grants_of address_table port) (vmid - 1))) (ne_eqb vmid 0 (λ e. omega arith)) ∙ is.at in
     let mac : is.item.amac.0 ≡ amac.0 = (bytes_eq-Decides is.item.amac.0 amac.0).0 parts.1 in
     record {
-      grantee = ap (grantee_at address) at ∙ ap (λ n. Some (granted_to is.item.amac n)) (sym (ap (λ (a : Pmac). a.port) (same_Some _ _ found)))
+      grantee = ap (λ o. grantee_at address (unless_free o)) at ∙ ap (grantee_at address) (used_unfree is.item parts.0)
+          ∙ ap (λ n. Some (granted_to is.item.amac n)) (sym (ap (λ (a : Pmac). a.port) (same_Some _ _ found)))
           ∙ ap (λ bytes. Some (granted_to (record { 0 = bytes }) port)) mac;
       used = ap is_used at ∙ parts.0;
     }
@@ -80,13 +92,14 @@ record IsOwnGrant (address_table : AddressTableView) (port : ℕ) (amac : Mac) (
   pub grant : Grant
   pub at : granted_in address_table address ≡ Some grant
   pub port_is : address.port ≡ port
-  pub passes : is_used_by amac grant ≡ true
+  pub passes : uses_grant amac grant ≡ true
 
 own_grant : (address_table : AddressTableView) (port : ℕ) (amac : Mac) (address : Pmac) (o : Option Grant) → granted_in address_table address ≡ o →
-    grantee_at address o ≡ Some (granted_to amac port) → is_used o ≡ true → IsOwnGrant address_table port amac address
+    grantee_at address (unless_free o) ≡ Some (granted_to amac port) → is_used o ≡ true → IsOwnGrant address_table port amac address
 own_grant address_table port amac address None at grantee used = absurd (let e = grantee in cc)
 own_grant address_table port amac address (Some grant) at grantee used =
-    let same : granted_to grant.amac address.port ≡ granted_to amac port = same_Some _ _ grantee in
+    let same : granted_to grant.amac address.port ≡ granted_to amac port =
+    same_Some _ _ (sym (ap (grantee_at address) (used_unfree grant used)) ∙ grantee) in
     record {
       grant = grant;
       at = at;
@@ -95,7 +108,7 @@ own_grant address_table port amac address (Some grant) at grantee used =
     }
 
 -- and no other is in use at that port
-own_is_used : (address_table : AddressTableView) (port : ℕ) (amac : Mac) (address : Pmac) → AtMostOne (is_used_by amac) (grants_of address_table port) →
+pub own_is_used : (address_table : AddressTableView) (port : ℕ) (amac : Mac) (address : Pmac) → AtMostOne (uses_grant amac) (grants_of address_table port) →
     IsHostsOwn address_table port amac address → address_in_use address_table port amac ≡ Some address
 own_is_used address_table port amac address one own =
     let is = own_grant address_table port amac address (granted_in address_table address) refl own.grantee own.used in
@@ -105,18 +118,13 @@ own_is_used address_table port amac address one own =
     let numbered_as = is_numbered (grants_of address_table port) address.vmid is.grant number in
     let first = numbered_as.first in
     let within = slice_get_within (grants_of address_table port) (address.vmid - 1) is.grant numbered_as.at in
-    let passes : is_used_by amac (get_or (grants_of address_table port) (address.vmid - 1) is.grant) ≡ true =
-    ap (is_used_by amac) (get_or_from_slice_get (grants_of address_table port) (address.vmid - 1) is.grant is.grant numbered_as.at) ∙ is.passes in
-    let found = found_at (is_used_by amac) 1 (grants_of address_table port) (address.vmid - 1) is.grant one within passes in
+    let passes : uses_grant amac (get_or (grants_of address_table port) (address.vmid - 1) is.grant) ≡ true =
+    ap (uses_grant amac) (get_or_from_slice_get (grants_of address_table port) (address.vmid - 1) is.grant is.grant numbered_as.at) ∙ is.passes in
+    let found = found_at (uses_grant amac) 1 (grants_of address_table port) (address.vmid - 1) is.grant one within passes in
     let counted : 1 + (address.vmid - 1) ≡ address.vmid = omega arith in
     ap (numbered address_table port) (found ∙ ap (λ (n : ℕ). Some n) counted)
-    ∙ ap (λ (a : Pmac). Some a) (here_is_same address_table (address_in address_table port address.vmid) address (is_here_itself address_table port address.vmid) here.here (sym is.port_is) refl)
-
-pub found_only : (address_table : AddressTableView) (port : ℕ) (amac : Mac) (grants : List Grant) (o : Option ℕ) → grants ≡ grants_of address_table port →
-    AtMostOne (is_used_by amac) grants → o ≡ in_use grants amac → (address : Pmac) → IsHostsOwn address_table port amac address → numbered address_table port o ≡ Some address
-found_only address_table port amac grants o read one found address own =
-    ap (numbered address_table port) (found ∙ ap (λ (gs : List Grant). in_use gs amac) read)
-    ∙ own_is_used address_table port amac address (subst (AtMostOne (is_used_by amac)) read one) own
+    ∙ ap (λ (a : Pmac). Some a) (here_is_same address_table (address_in address_table port address.vmid) address
+    (is_here_itself address_table port address.vmid) here.here (sym is.port_is) refl)
 
 -- Traps that were set one after another.
 

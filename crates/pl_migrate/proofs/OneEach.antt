@@ -1,5 +1,5 @@
 -- Lists of which at most one item passes a test.
-use Rattle.std.proofs.Common.{◌≡◌, ◌<◌, ℕ, zero, suc, ◌+◌, ◌||◌, Bool, true, false, cond, List, [], ◌∷◌, ◌++◌, length, drop, get_or, Some, None, refl, inl, inr, sym, ap, ◌∙◌, arith}
+use Rattle.std.proofs.Common.{◌≡◌, ◌<◌, ℕ, zero, suc, ◌+◌, ◌||◌, ◌⊎◌, Bool, true, false, cond, List, [], ◌∷◌, ◌++◌, length, drop, get_or, map, Some, None, refl, inl, inr, sym, ap, ◌∙◌, arith}
 use Rattle.std.specs.List.{list_any, position_from, slice_get}
 use Rattle.std.specs.Prelude.{slice_set}
 use Rattle.std.proofs.lemmas.Bool.{both_ways, cases_Bool, cond-false, cond-true, false_from_ne_true, or_from, or_parts}
@@ -98,3 +98,52 @@ module _ {T : Type 0} (test : T → Bool) where
       ap (λ b. cond b (Some k) (position_from test (k + 1) xs)) (alike ∙ sym (ap test is))
   position_set k (x ∷ xs) (suc i) old new at alike =
       ap (λ o. cond (test x) (Some k) o) (position_set (k + 1) xs i old new at alike)
+
+  -- where none passes, one is the only one
+  at_most_none : (xs : List T) → list_any test xs ≡ false → AtMostOne test xs
+  at_most_none [] none = tt
+  at_most_none (x ∷ xs) none = let parts = or_parts (test x) (list_any test xs) none in ((λ t. parts.1), at_most_none xs parts.1)
+
+  at_most_only : (xs : List T) (i : ℕ) (new : T) → list_any test xs ≡ false → AtMostOne test (slice_set xs i new)
+  at_most_only [] i new none = tt
+  at_most_only (x ∷ xs) zero new none = let parts = or_parts (test x) (list_any test xs) none in ((λ t. parts.1), at_most_none xs parts.1)
+  at_most_only (x ∷ xs) (suc i) new none =
+      let parts = or_parts (test x) (list_any test xs) none in ((λ t. absurd (both_ways (test x) parts.0 t)), at_most_only xs i new parts.1)
+
+  pub at_most_placed : (xs : List T) (i : ℕ) (old new : T) → slice_get xs i ≡ Some old → (test new ≡ true → (test old ≡ true) ⊎ (list_any test xs ≡ false)) →
+      AtMostOne test xs → AtMostOne test (slice_set xs i new)
+  at_most_placed xs i old new at fits one = elim (cases_Bool (test new)) [
+    | inl passes ↦ elim (fits passes) [
+      | inl passed ↦ at_most_set xs i old new at (λ t. passed) one
+      | inr none ↦ at_most_only xs i new none
+    ]
+    | inr fails ↦ at_most_set xs i old new at (λ t. absurd (both_ways (test new) fails t)) one
+  ]
+
+  pub position_only : (k : ℕ) (xs : List T) (i : ℕ) (old new : T) → slice_get xs i ≡ Some old → position_from test k xs ≡ None → test new ≡ true →
+      position_from test k (slice_set xs i new) ≡ Some (k + i)
+  position_only k [] i old new at unfound passes = absurd (let e = at in cc)
+  position_only k (x ∷ xs) zero old new at unfound passes = cond-true (test new) (Some k) (position_from test (k + 1) xs) passes
+      ∙ ap (λ (n : ℕ). Some n) (omega arith)
+  position_only k (x ∷ xs) (suc i) old new at unfound passes = elim (cases_Bool (test x)) [
+    | inl found ↦ absurd (let e = sym (cond-true (test x) (Some k) (position_from test (k + 1) xs) found) ∙ unfound in cc)
+    | inr fails ↦ cond-false (test x) (Some k) (position_from test (k + 1) (slice_set xs i new)) fails
+        ∙ position_only (k + 1) xs i old new at (sym (cond-false (test x) (Some k) (position_from test (k + 1) xs) fails) ∙ unfound) passes
+        ∙ ap (λ (n : ℕ). Some n) (omega arith)
+  ]
+
+-- The same of other items that pass another test alike.
+
+module _ {T U : Type 0} (f : T → U) (test : T → Bool) (other : U → Bool) (alike : (x : T) → other (f x) ≡ test x) where
+  pub any_mapped : (xs : List T) → list_any other (map f xs) ≡ list_any test xs
+  any_mapped [] = refl
+  any_mapped (x ∷ xs) = ap (λ b. b || list_any other (map f xs)) (alike x) ∙ ap (λ b. test x || b) (any_mapped xs)
+
+  pub position_mapped : (k : ℕ) (xs : List T) → position_from other k (map f xs) ≡ position_from test k xs
+  position_mapped k [] = refl
+  position_mapped k (x ∷ xs) =
+      ap (λ b. cond b (Some k) (position_from other (k + 1) (map f xs))) (alike x) ∙ ap (λ o. cond (test x) (Some k) o) (position_mapped (k + 1) xs)
+
+  pub at_most_mapped : (xs : List T) → AtMostOne test xs → AtMostOne other (map f xs)
+  at_most_mapped [] one = tt
+  at_most_mapped (x ∷ xs) one = ((λ t. any_mapped xs ∙ one.0 (sym (alike x) ∙ t)), at_most_mapped xs one.1)

@@ -1,16 +1,20 @@
 -- The address table of an edge switch that is placed, and the part of the switch that it is.
-use Rattle.std.specs.Prelude.{ℕ, ◌==◌, ◌+◌, ◌-◌, ◌&&◌, Bool, false, if◌then◌else◌, List, [], ◌∷◌, ◌++◌, length, Option, Some, None, is_some, replicate, slice_index_or, slice_set}
+use Rattle.std.specs.Prelude.{ℕ, ◌==◌, ◌&&◌, nat_le, not, Bool, true, false, if◌then◌else◌, List, [], ◌∷◌, ◌++◌, Option, Some, None, is_some, replicate, slice_index_or}
 use Rattle.pl_frame.specs.declared.address.Ip4.{Ip4}
 use Rattle.pl_frame.specs.declared.address.Mac.{Mac}
 use Rattle.pl_pmac.specs.declared.pmac.Pmac.{Pmac}
 use Rattle.pl_layouts.specs.declared.place.Place.{Place}
 use Rattle.pl_node.specs.AddressUses.{is_in_use}
+use Rattle.pl_node.specs.declared.address_use.AddressUse.{AddressUse}
 use Rattle.pl_node.specs.declared.switch_records.Grant.{Grant}
 use Rattle.pl_node.specs.declared.switch_records.Source.{Source}
 use Rattle.pl_node.specs.declared.trap.Trap.{Trap}
 use Rattle.pl_node.specs.SwitchViews.{SwitchView}
+use Rattle.pl_node.specs.declared.acts.Act.TheVariants.{Tell}
+use Rattle.pl_node.specs.declared.messages.ToManager.TheVariants.{Learned}
+use Rattle.pl_steps.specs.Steps.{SwitchStep}
 use Rattle.pl_switch_rule.specs.Delivering.{grant_trap}
-use Rattle.pl_switch_rule.specs.Granting.{grant_number, in_use, new_grant}
+use Rattle.pl_switch_rule.specs.Granting.{grant_number, in_use, next_vmid, unless_free, uses, with_grant}
 use Rattle.pl_switch_rule.specs.Messages.{sets_trap}
 use Rattle.pl_migrate.specs.declared.grantee.Grantee.{Grantee}
 
@@ -19,20 +23,41 @@ pub record AddressTableView : Type 0 where
   pub pod : ℕ
   pub position : ℕ
   pub grants : List (List Grant)
+  -- the addresses in use, in the order of last use: those whose hosts were asked since, and behind them those whose hosts were not
+  pub asked : List Pmac
+  pub fresh : List Pmac
+  -- those with a trap, in the order of setting
+  pub trapped : List Pmac
+  -- for each port the vmids of its free addresses, in the order in which they were freed
+  pub freed : List (List ℕ)
 
 abbrev pub edge_at : ℕ → ℕ → Place
 edge_at pod position = record { level = Some 0; position = Some position; pod = Some pod }
 
--- a switch with the place and the grants of an address table
+-- a switch with the place of an address table, and all that it says of addresses
 abbrev pub address_table_in : AddressTableView → SwitchView → SwitchView
-address_table_in address_table v = record v { place = edge_at address_table.pod address_table.position; grants = address_table.grants }
+address_table_in address_table v = record v {
+  place = edge_at address_table.pod address_table.position;
+  grants = address_table.grants;
+  used = address_table.asked ++ address_table.fresh;
+  trapped = address_table.trapped;
+  freed = address_table.freed;
+}
 
 -- and with what is remembered of the sources at its ports
 abbrev pub sources_in : AddressTableView → List (Option Source) → SwitchView → SwitchView
 sources_in address_table remembered v = record (address_table_in address_table v) { remembered = remembered }
 
 abbrev pub empty_address_table : ℕ → ℕ → ℕ → AddressTableView
-empty_address_table k pod position = record { pod = pod; position = position; grants = replicate k [] }
+empty_address_table k pod position = record {
+  pod = pod;
+  position = position;
+  grants = replicate k [];
+  asked = [];
+  fresh = [];
+  trapped = [];
+  freed = replicate k [];
+}
 
 abbrev pub address_in : AddressTableView → ℕ → ℕ → Pmac
 address_in address_table port vmid = record { pod = address_table.pod; position = address_table.position; port = port; vmid = vmid }
@@ -44,17 +69,24 @@ is_here address_table address = (address_table.pod == address.pod) && (address_t
 abbrev pub grants_of : AddressTableView → ℕ → List Grant
 grants_of address_table port = slice_index_or address_table.grants port []
 
--- what was granted under an address
+abbrev pub freed_of : AddressTableView → ℕ → List ℕ
+freed_of address_table port = slice_index_or address_table.freed port []
+
+-- what was granted under an address, also where it is free
 abbrev pub granted_in : AddressTableView → Pmac → Option Grant
 granted_in address_table address = if is_here address_table address then grant_number (grants_of address_table address.port) address.vmid else None
+
+-- the same of an address that is not free
+abbrev pub held_in : AddressTableView → Pmac → Option Grant
+held_in address_table address = unless_free (granted_in address_table address)
 
 abbrev pub grantee_at : Pmac → Option Grant → Option Grantee
 grantee_at address None = None
 grantee_at address (Some grant) = Some (record { amac = grant.amac; port = address.port })
 
--- to which host, and at which port, an address was granted
+-- whose an address is, and at which port
 abbrev pub grantee_in : AddressTableView → Pmac → Option Grantee
-grantee_in address_table address = grantee_at address (granted_in address_table address)
+grantee_in address_table address = grantee_at address (held_in address_table address)
 
 -- the trap that stands for an address
 abbrev pub trap_in : AddressTableView → Pmac → Option Trap
@@ -75,26 +107,41 @@ numbered address_table port (Some vmid) = Some (address_in address_table port vm
 abbrev pub address_in_use : AddressTableView → ℕ → Mac → Option Pmac
 address_in_use address_table port amac = numbered address_table port (in_use (grants_of address_table port) amac)
 
--- the last vmid of a port was given
-abbrev pub is_last_given : AddressTableView → ℕ → Bool
-is_last_given address_table port = is_some (grant_number (grants_of address_table port) 65535)
+-- the address that a port gives next; none where every vmid was given, and no address is free
+abbrev pub next_address : AddressTableView → ℕ → Option Pmac
+next_address address_table port = numbered address_table port (next_vmid (freed_of address_table port) (grants_of address_table port))
 
-abbrev pub with_port : AddressTableView → ℕ → List Grant → AddressTableView
-with_port address_table port grants = record address_table { grants = slice_set address_table.grants port grants }
+abbrev pub is_spent : AddressTableView → ℕ → Bool
+is_spent address_table port = not (is_some (next_vmid (freed_of address_table port) (grants_of address_table port)))
 
--- the next address of a port
-abbrev pub next_address : AddressTableView → ℕ → Pmac
-next_address address_table port = address_in address_table port (length (grants_of address_table port) + 1)
+-- what an address is used for, where it was granted
+abbrev pub use_of : Option Grant → Option AddressUse
+use_of None = None
+use_of (Some grant) = Some grant.held
 
--- the next address of a port is granted
-abbrev pub with_next : AddressTableView → ℕ → Mac → Option Ip4 → AddressTableView
-with_next address_table port amac ip = with_port address_table port (grants_of address_table port ++ new_grant amac ip ∷ [])
-
--- what was granted under an address is changed
-abbrev pub with_granted : AddressTableView → Pmac → Grant → AddressTableView
-with_granted address_table address grant = with_port address_table address.port (slice_set (grants_of address_table address.port) (address.vmid - 1) grant)
-
--- a trap is set for an address; one that was never granted here stays as it is
+-- a trap is set for an address; one that is nobody's stays as it is
 abbrev pub traps : SwitchView → Pmac → Trap → Option Grant → SwitchView
 traps v old trap None = v
 traps v old trap (Some grant) = sets_trap v old grant trap
+
+-- a trap takes the place of the one that stands, unless that has a larger number
+abbrev pub takes_over : Trap → Option Trap → Bool
+takes_over trap None = true
+takes_over trap (Some standing) = nat_le standing.number trap.number
+
+-- an address is used again, where it was granted
+abbrev pub used_if : SwitchView → Pmac → Option Grant → SwitchView
+used_if v address None = v
+used_if v address (Some grant) = uses v address grant
+
+-- this is its IPv4 address
+abbrev pub with_ip : SwitchView → Pmac → Ip4 → Option Grant → SwitchView
+with_ip v address ip None = v
+with_ip v address ip (Some grant) = with_grant v address (record grant { ip = Some ip })
+
+-- a frame uses an address, and gives it an IPv4 address that is new, of which the manager is told
+abbrev pub takes_ip : SwitchView → Pmac → Grant → Ip4 → SwitchStep
+takes_ip v address grant ip = record {
+  view = uses v address (record grant { ip = Some ip });
+  acts = Tell (Learned address grant.amac (Some ip)) ∷ [];
+}

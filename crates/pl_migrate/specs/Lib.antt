@@ -1,3 +1,6 @@
-pub mod PortGrants
 pub mod AddressTables
+pub mod Tenancies
+pub mod PortGrants
+pub mod Standings
 pub mod Keeping
+pub mod Orders

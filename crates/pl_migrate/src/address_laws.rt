@@ -1,4 +1,4 @@
-ghost use Rattle.std.specs.Prelude.{◌≡◌, ℕ, List, [], MatchOption, None, Some};
+ghost use Rattle.std.specs.Prelude.{◌≡◌, ℕ, List, [], MatchOption, Some};
 ghost use Rattle.pl_frame.specs.declared.address.Mac.{Mac};
 ghost use Rattle.pl_pmac.specs.declared.pmac.Pmac.{Pmac};
 ghost use Rattle.pl_node.specs.declared.trap.Trap.{Trap};
@@ -6,7 +6,7 @@ ghost use Rattle.pl_node.specs.SwitchViews.{SwitchView};
 ghost use Rattle.pl_switch_rule.specs.Delivering.{trap_for};
 ghost use Rattle.pl_switch_rule.specs.Granting.{granted, grants_at, in_use, is_local};
 ghost use Rattle.pl_switch_rule.specs.Intake.{pmac_at};
-ghost use Rattle.pl_migrate.specs.AddressTables.{AddressTableView, address_in_use, address_table_in, granted_in, is_here, next_address, trap_in};
+ghost use Rattle.pl_migrate.specs.AddressTables.{AddressTableView, address_in_use, address_table_in, granted_in, is_here, trap_in};
 ghost use Rattle.pl_migrate.specs.Keeping.{trap_standing, IsHostsOwn, StandsOf};
 
 /// What stands in an address table is what a switch with its place and its grants knows.
@@ -20,11 +20,6 @@ pub fn an_address_table_is_a_part_of_a_switch()
 /// The address that a host has in use at a port was granted to that host at that port.
 pub fn an_address_in_use_is_its_hosts()
     ensures { (address_table : AddressTableView) (port : ℕ) (amac : Mac) (pmac : Pmac) → address_in_use address_table port amac ≡ Some pmac → IsHostsOwn address_table port amac pmac }
-{}
-
-/// The next address of a port was never granted.
-pub fn the_next_address_is_new()
-    ensures { (address_table : AddressTableView) (port : ℕ) → granted_in address_table (next_address address_table port) ≡ None }
 {}
 
 /// Of the traps that were set for an address, one after another, one with the largest number stands.

@@ -1,29 +1,34 @@
 ghost use Rattle.std.specs.Prelude.{◌≡◌, ◌-◌, ◌<◌, ◌≤◌, ◌∷◌, ◌++◌, [], None, length, OnErr, OnOk, slice_set};
-ghost use Rattle.pl_switch_rule.specs.Granting.{grant_number, in_use, new_grant};
-ghost use Rattle.pl_migrate.specs.PortGrants.{is_used_by, ArePortGrants, AtMostOne, TakesPlaceOf};
+ghost use Rattle.pl_pool.specs.Pool.{list_at};
+ghost use Rattle.pl_migrate.specs.Orders.{IsEntered};
+ghost use Rattle.pl_migrate.specs.PortGrants.{is_used_by, used_vmid, ArePortGrants, AtMostOne, TakesPlaceOf};
+ghost use Rattle.pl_migrate.specs.Tenancies.{tenancy_number};
 
+use crate::tenancy::{FRESH, Standing, Tenancy};
 use pl_frame::{Ip4, Mac};
-use pl_node::{AddressUse, Grant, Memory};
-use std::alloc::Global;
+use pl_node::Memory;
+use pl_pmac::Pmac;
+use pl_pool::Pool;
+use std::alloc::{AllocError, Global};
 use std::marker::Model;
 
-/// What was granted at one port. Contracts see the list of it, in the order of the vmids, which begin
-/// at 1.
-#[derive(Debug, Drop)]
+/// What is kept of the addresses that were granted at one port. Contracts see the list of it, in the order
+/// of the vmids, which begin at 1.
+#[derive(Drop)]
 pub(crate) struct PortGrants {
-    grants: Vec<Grant>,
+    tenancies: Vec<Tenancy>,
 }
 
 impl Model for PortGrants {
     ghost use Rattle.std.specs.Prelude.{List};
-    ghost use Rattle.pl_node.specs.declared.switch_records.Grant.{Grant};
+    ghost use Rattle.pl_migrate.specs.declared.tenancy.Tenancy.{Tenancy};
     ghost use Rattle.pl_migrate.specs.PortGrants.{ArePortGrants};
 
-    ghost Value = { List Grant };
+    ghost Value = { List Tenancy };
 
-    ghost view = { λ port. port.grants.items };
+    ghost view = { λ port. port.tenancies.items };
 
-    ghost invariant = { λ port. ArePortGrants port.grants.items };
+    ghost invariant = { λ port. ArePortGrants port.tenancies.items };
 }
 
 impl PortGrants {
@@ -31,7 +36,7 @@ impl PortGrants {
         ensures { result ≡ [] }
     {
         PortGrants {
-            grants: Vec::new(alloc),
+            tenancies: Vec::new(alloc),
         }
     }
 
@@ -39,65 +44,80 @@ impl PortGrants {
         ensures len { result ≡ length self.now }
         ensures within { result ≤ 65535 }
     {
-        self.grants.len()
+        self.tenancies.len()
     }
 
-    pub(crate) fn get(&self, vmid: u16) -> Option<Grant>
-        ensures { result ≡ grant_number self.now vmid }
+    pub(crate) fn get(&self, vmid: u16) -> Option<Tenancy>
+        ensures { result ≡ tenancy_number self.now vmid }
     {
         if vmid == 0 {
             return None;
         }
-        self.grants.get(usize::from(vmid) - 1).copied()
+        self.tenancies.get(usize::from(vmid) - 1).copied()
     }
 
     /// The vmid of the address that a host has in use here.
     pub(crate) fn in_use(&self, amac: Mac) -> Option<u16>
-        ensures found { result ≡ in_use self.now amac }
+        ensures found { result ≡ used_vmid self.now amac }
         ensures only { AtMostOne (is_used_by amac) self.now }
     {
-        newest_in_use(self.grants.as_slice(), amac)
+        newest_in_use(self.tenancies.as_slice(), amac)
     }
 
-    /// Grants the next address to a host that has none in use here.
-    pub(crate) fn push(&mut self, amac: Mac, ip: Option<Ip4>) -> Result<(), Memory>
+    /// Grants the next address, which is this one, to a host that has none in use here. It stands behind all
+    /// others in use.
+    pub(crate) fn push(
+        &mut self,
+        orders: &mut Pool<Pmac>,
+        pmac: Pmac,
+        amac: Mac,
+        ip: Option<Ip4>,
+        now: u64,
+    ) -> Result<(), Memory>
         requires room { length self.old < 65535 }
-        requires unused { in_use self.old amac ≡ None }
-        ensures ok { OnOk result (self.new ≡ self.old ++ new_grant amac ip ∷ []) }
-        ensures err { OnErr result (self.new ≡ self.old) }
+        requires unused { used_vmid self.old amac ≡ None }
+        requires lists { 4 ≤ length orders.old.lists }
+        ensures ok { OnOk result (IsEntered self.old self.new orders.old orders.new pmac amac ip now) }
+        ensures err { OnErr result ((self.new ≡ self.old) × (orders.new ≡ orders.old)) }
     {
-        self.grants.push(Grant {
+        self.tenancies.reserve(1)?;
+        let Ok(key) = orders.push_back(FRESH, pmac) else {
+            return Err(AllocError);
+        };
+        self.tenancies.push_reserved(Tenancy {
             amac,
             ip,
-            held: AddressUse::InUse(0),
-        })?;
+            standing: Standing::Fresh,
+            since: now,
+            key,
+        });
         Ok(())
     }
 
-    /// Changes what is known of an address that was granted.
-    pub(crate) fn replace(&mut self, vmid: u16, grant: Grant)
-        requires { TakesPlaceOf grant (grant_number self.old vmid) }
-        ensures { self.new ≡ slice_set self.old (vmid - 1) grant }
+    /// Changes what is kept of an address that was granted.
+    pub(crate) fn replace(&mut self, vmid: u16, tenancy: Tenancy)
+        requires { TakesPlaceOf self.old tenancy (tenancy_number self.old vmid) }
+        ensures { self.new ≡ slice_set self.old (vmid - 1) tenancy }
     {
-        self.grants[usize::from(vmid) - 1] = grant;
+        self.tenancies[usize::from(vmid) - 1] = tenancy;
     }
 }
 
 // The vmid of the address in use, looked for from the newest one back: a host mostly has the newest.
-fn newest_in_use(grants: &[Grant], amac: Mac) -> Option<u16>
-    requires { ArePortGrants grants.now }
-    ensures { result ≡ in_use grants.now amac }
+fn newest_in_use(tenancies: &[Tenancy], amac: Mac) -> Option<u16>
+    requires { ArePortGrants tenancies.now }
+    ensures { result ≡ used_vmid tenancies.now amac }
 {
-    for n in (0..grants.len()).rev() {
-        if is_used_by(&grants[n], amac) {
+    for n in (0..tenancies.len()).rev() {
+        if is_used_by(&tenancies[n], amac) {
             return Some(n as u16 + 1);
         }
     }
     None
 }
 
-fn is_used_by(grant: &Grant, amac: Mac) -> bool
-    ensures { result ≡ is_used_by amac grant.now }
+fn is_used_by(tenancy: &Tenancy, amac: Mac) -> bool
+    ensures { result ≡ is_used_by amac tenancy.now }
 {
-    grant.held.is_in_use() && grant.amac == amac
+    tenancy.standing.is_in_use() && tenancy.amac == amac
 }

@@ -2,6 +2,7 @@ pub mod Among
 pub mod Ordering
 pub mod AvoidOrder
 pub mod AvoidRows
+pub mod Numbered
 pub mod Booted
 pub mod Ports
 pub mod Addresses

@@ -1,8 +1,8 @@
 -- What every step of a switch owes to the frames that it handles.
-use Rattle.std.specs.Prelude.{◌≡◌, ℕ, ◌/◌, ◌%◌, ◌^◌, ◌<◌, ◌≤◌, Bool, true, false, if◌then◌else◌, List, length, Option, Some, None, fold}
+use Rattle.std.specs.Prelude.{◌≡◌, ℕ, ◌/◌, ◌%◌, ◌^◌, ◌<◌, ◌≤◌, Bool, true, false, if◌then◌else◌, List, [], length, Option, Some, None, fold, slice_index_or}
 use Rattle.std.specs.List.{AllByRecursion}
 use Rattle.pl_node.specs.declared.acts.Act.{Act}
-use Rattle.pl_node.specs.declared.acts.Act.TheVariants.{Control, Drop, Grant as GrantAct, Make, Pass, Redirect, Take, Tell}
+use Rattle.pl_node.specs.declared.acts.Act.TheVariants.{Control, Drop, Free, Grant as GrantAct, Make, Pass, Redirect, Take, Tell}
 use Rattle.pl_node.specs.SwitchInputs.{SwitchInput, SwitchRule}
 use Rattle.pl_node.specs.SwitchInputs.SwitchInput.{Comes, Says, Tick}
 use Rattle.pl_node.specs.declared.switch_records.Grant.{Grant}
@@ -26,6 +26,7 @@ abbrev pub frame_state_after : FrameState → Act → FrameState
 frame_state_after Silent (Control port frame) = Silent
 frame_state_after Silent (Tell told) = Silent
 frame_state_after Silent (GrantAct pmac amac) = Silent
+frame_state_after Silent (Free pmac) = Silent
 frame_state_after Silent (Make frame) = Waiting
 frame_state_after Waiting (Control port frame) = Waiting
 frame_state_after Waiting (Tell told) = Waiting
@@ -85,10 +86,11 @@ pub record IsMade (frame : List ℕ) : Type 0 where
   pub whole : IsWholeFrame frame
 
 -- Control frames go out as control frames and data frames as data frames, by ports that are there. So is the port of an address that is
--- granted.
+-- granted, or freed.
 abbrev pub IsFit : ℕ → Act → Type 0
 IsFit k (Control port frame) = IsSentDuly k port true frame
 IsFit k (GrantAct pmac amac) = pmac.port < k
+IsFit k (Free pmac) = pmac.port < k
 IsFit k (Pass port frame) = IsSentDuly k port false frame
 IsFit k (Make frame) = IsMade frame
 IsFit k act = Unit {0}
@@ -100,6 +102,10 @@ abbrev pub RemembersMac : Option Source → Type 0
 RemembersMac None = Unit {0}
 RemembersMac (Some source) = length source.amac.0 ≡ 6
 
+-- these are vmids of addresses that were granted
+abbrev pub WereGranted : List Grant → List ℕ → Type 0
+WereGranted grants vmids = AllByRecursion (λ vmid. (1 ≤ vmid) × (vmid ≤ length grants)) vmids
+
 -- A switch of a fat tree: an even number of ports from 4 to 24, and all that it keeps by port and by position.
 pub record IsShaped (v : SwitchView) : Type 0 where
   pub named : 1 ≤ v.id.0
@@ -110,8 +116,10 @@ pub record IsShaped (v : SwitchView) : Type 0 where
   pub ports : length v.ports ≡ v.k
   pub holds : length v.holds ≡ v.k / 2
   pub grants : length v.grants ≡ v.k
+  pub freed : length v.freed ≡ v.k
   pub remembered : length v.remembered ≡ v.k
   pub granted : AllByRecursion (AllByRecursion HasMac) v.grants
+  pub free : (port : ℕ) → WereGranted (slice_index_or v.grants port []) (slice_index_or v.freed port [])
   pub sources : AllByRecursion RemembersMac v.remembered
 
 pub record IsComing (k port : ℕ) (frame : List ℕ) : Type 0 where

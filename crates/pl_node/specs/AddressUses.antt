@@ -11,6 +11,13 @@ is_in_use (Trapped trap age) = false
 is_in_use (Resting number) = false
 is_in_use Free = false
 
+-- it is not free
+abbrev pub is_held : AddressUse → Bool
+is_held (InUse idle) = true
+is_held (Trapped trap age) = true
+is_held (Resting number) = true
+is_held Free = false
+
 -- the trap that stands for it
 abbrev pub standing_trap : AddressUse → Option Trap
 standing_trap (InUse idle) = None

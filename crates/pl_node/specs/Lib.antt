@@ -1,7 +1,6 @@
 pub mod SwitchViews
 pub mod PortRecords
 pub mod Announcements
-pub mod Traps
 pub mod AddressUses
 pub mod SwitchInputs
 pub mod Accounting

@@ -1,12 +1,12 @@
 -- How a fabric manager may act, and what any rule of it is to keep.
-use Rattle.std.specs.Prelude.{◌≡◌, ◌≤◌, ℕ, ◌+◌, ◌||◌, Bool, true, List, ◌++◌, length, map, Option, Some, None, IsTrue}
-use Rattle.std.specs.List.{AllByRecursion, filter_map, list_all}
+use Rattle.std.specs.Prelude.{◌≡◌, ◌≤◌, ◌⊎◌, ℕ, ◌+◌, ◌||◌, Bool, true, Contains, List, length, Option, Some, None, IsTrue, option_map}
+use Rattle.std.specs.List.{filter_map, list_all}
 use Rattle.pl_frame.specs.declared.address.SwitchId.{SwitchId}
 use Rattle.pl_pmac.specs.declared.pmac.Pmac.{Pmac}
 use Rattle.pl_node.specs.declared.acts.ManagerAct.{ManagerAct}
 use Rattle.pl_node.specs.declared.acts.ManagerAct.TheVariants.{Say, Number}
 use Rattle.pl_node.specs.declared.messages.ToManager.{ToManager}
-use Rattle.pl_node.specs.ManagerViews.{Learnt, ManagerView, Registration, is_heard, registry}
+use Rattle.pl_node.specs.ManagerViews.{Learnt, ManagerView, Registration, is_heard, registration}
 use Rattle.pl_layouts.specs.Equality.{same_switch}
 
 -- how a fabric manager may act: its view, who speaks and what, its view then, and its acts
@@ -33,11 +33,13 @@ pub record IsGrown (before : ManagerView) (s : SwitchId) (after : ManagerView) :
   pub heard : (t : SwitchId) → IsTrue (is_heard after t) → IsTrue (same_switch s t || is_heard before t)
   pub addresses : after.learnt.count ≤ before.learnt.count + 1
 
--- The addresses that are registered then are those of before and the ones that were given numbers; each of these has the next number.
+-- The addresses that are given numbers were not registered, and are then, each with the next number. One that was registered stays so, with its
+-- number, or is forgotten.
 pub record AreNumbered (before after : Learnt) (given : List (Pmac × ℕ)) : Type 0 where
-  pub registered : map with_number (registry after) ≡ given ++ map with_number (registry before)
   pub count : after.count ≡ length given + before.count
-  pub next : AllByRecursion (λ (g : Pmac × ℕ). g.1 ≡ after.count) given
+  pub numbers : (x : Pmac) (n : ℕ) → Contains given (x, n) →
+      (registration before x ≡ None) × (n ≡ after.count) × (option_map with_number (registration after x) ≡ Some (x, n))
+  pub registered : (x : Pmac) (r : Registration) → registration after x ≡ Some r → (registration before x ≡ Some r) ⊎ Contains given (with_number r)
 
 -- What any rule of a fabric manager is to keep: it speaks to switches that it heard, it says the number of just the addresses that it
 -- learns, and what it knows grows with what it hears.

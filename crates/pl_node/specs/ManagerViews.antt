@@ -1,6 +1,6 @@
 -- What the fabric manager knows: what each switch told last of each thing, who asked for the number of a pod, and the addresses that it
 -- learnt. A later word takes the place of an earlier one on the same thing, and all answers are functions of what is known then.
-use Rattle.std.specs.Prelude.{ℕ, ◌==◌, ◌&&◌, Bool, false, if◌then◌else◌, List, [], ◌∷◌, ◌++◌, length, map, Option, Some, None, is_none, unwrap_or}
+use Rattle.std.specs.Prelude.{ℕ, ◌==◌, ◌&&◌, Bool, false, if◌then◌else◌, List, [], ◌∷◌, ◌++◌, length, map, not, Option, Some, None, is_none, unwrap_or}
 use Rattle.std.specs.List.{filter, filter_map, find, list_any}
 use Rattle.std.specs.Map as table
 use Rattle.std.specs.Option.{option_and_then, option_map}
@@ -48,11 +48,11 @@ pub record LearntAddress : Type 0 where
 
 -- what was learnt of addresses
 pub record Learnt : Type 0 where
-  -- each once, the newest first
+  -- each once, the newest first; one that was released is not among them any more
   pub addresses : List LearntAddress
   -- the actual address of the host with whose pseudo address an IPv4 address was told last, by rising IPv4 address
   pub owners : List (Ip4 × Mac)
-  -- how many addresses were learnt since boot
+  -- how many addresses were learnt since boot, with those that were released
   pub count : ℕ
 
 -- all that the manager knows
@@ -201,11 +201,40 @@ registry learnt = map registered_as learnt.addresses
 abbrev pub registration : Learnt → Pmac → Option Registration
 registration learnt x = find (λ r. same_pmac r.pmac x) (registry learnt)
 
+-- what is known of a pseudo address
+abbrev pub learnt_at : Learnt → Pmac → Option LearntAddress
+learnt_at learnt x = find (λ a. same_pmac a.pmac x) learnt.addresses
+
+-- where it leads
+abbrev pub recall_of : Learnt → Pmac → Option Recall
+recall_of learnt x = option_and_then (λ a. a.recall) (learnt_at learnt x)
+
+-- the number of the trap behind which an address ages, 0 where it leads to no newer one
+abbrev pub number_behind : Option Recall → ℕ
+number_behind None = 0
+number_behind (Some recall) = recall.number
+
+-- it was told to have aged since
+abbrev pub has_aged : Learnt → Pmac → Bool
+has_aged learnt x = unwrap_or (option_map (λ a. a.aged) (learnt_at learnt x)) false
+
+-- a trap stands from when its switch is sent the newer address until it is told that the old one has aged behind it
+abbrev pub leads_to : Pmac → Option Recall → Bool
+leads_to x None = false
+leads_to x (Some recall) = same_pmac recall.new x
+
+-- an address has a trap that stands, and that leads to this one
+abbrev pub is_trapped_to : Pmac → LearntAddress → Bool
+is_trapped_to x a = not a.aged && leads_to x a.recall
+
+abbrev pub is_led_to : Learnt → Pmac → Bool
+is_led_to learnt x = list_any (is_trapped_to x) learnt.addresses
+
 -- an address of this host that leads to no newer one
 abbrev pub is_newest_of : Mac → LearntAddress → Bool
 is_newest_of amac a = same_mac a.amac amac && is_none a.recall
 
--- the newest address of an actual address
+-- the newest address of an actual address: there is none once that one was released, also where older ones are known
 abbrev pub newest : Learnt → Mac → Option Registration
 newest learnt amac = option_map registered_as (find (is_newest_of amac) learnt.addresses)
 

@@ -15,6 +15,8 @@ pub enum Act {
     Tell(ToManager),
     /// A host at a port is granted an address.
     Grant { pmac: Pmac, amac: Mac },
+    /// An address is free, and may be granted again.
+    Free(Pmac),
     /// A frame of the switch's own begins.
     Make(Frame),
     /// The frame goes on from an old address to a newer one of the same host.

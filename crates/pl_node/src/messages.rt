@@ -21,6 +21,12 @@ pub enum ToManager {
         amac: Mac,
         ip: Option<Ip4>,
     },
+    /// It uses an address no more, and sends frames for it nowhere else: behind a trap of this number, or 0
+    /// where none stood.
+    Aged {
+        pmac: Pmac,
+        number: u64,
+    },
     /// A host asks who has an IPv4 address.
     Query {
         asker: Pmac,
@@ -61,6 +67,8 @@ pub enum ToSwitch {
         number: u64,
         ip: Option<Ip4>,
     },
+    /// An address that it told to have aged is nobody's from now on: no trap leads to it.
+    Release(Pmac),
     /// Its part of a group's tree; none where it has no part.
     Tree {
         group: u32,

@@ -1,6 +1,3 @@
-ghost use Rattle.std.specs.Prelude.{◌≡◌};
-ghost use Rattle.pl_node.specs.Traps.{newer_trap};
-
 use pl_frame::Ip4;
 use pl_pmac::Pmac;
 
@@ -11,16 +8,4 @@ pub struct Trap {
     pub new: Pmac,
     pub number: u64,
     pub ip: Option<Ip4>,
-}
-
-impl Trap {
-    /// This trap, or the one that stands already, where that has a larger number.
-    pub fn or_newer(self, standing: Option<Trap>) -> Trap
-        ensures { result ≡ newer_trap self standing }
-    {
-        match standing {
-            Some(standing) if self.number < standing.number => standing,
-            _ => self,
-        }
-    }
 }

@@ -1,5 +1,4 @@
 pub mod Stops
-pub mod Largest
-pub mod Grants
 pub mod Played
 pub mod LinksLeft
+pub mod HostNumbers

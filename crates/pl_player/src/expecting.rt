@@ -1,8 +1,9 @@
-ghost use Rattle.std.specs.Prelude.{◌≡◌, ◌↔◌, ◌&&◌, IfOk, IsTrue, filter_map, find, max, option_map, reverse};
-ghost use Rattle.std.specs.List.{list_any, reduce};
+ghost use Rattle.std.specs.Prelude.{◌≡◌, ◌↔◌, ◌∷◌, ◌&&◌, ◌||◌, if◌then◌else◌, not, IfOk, IfSome, IsTrue, List, None, OnOk, find, option_map, reverse};
 ghost use Rattle.pl_layouts.specs.Equality.{same_pmac};
-ghost use Rattle.pl_script_rule.specs.Expecting.{IsNewest, arrivals, ended_settled, endings, is_arrival_at, is_end_for, is_outcome, is_settled};
-ghost use Rattle.pl_player.specs.Newest.{granted_to, grants_of, is_one_of, is_registered_by, number_in};
+ghost use Rattle.pl_journal.specs.declared.entry.Entry.{Entry};
+ghost use Rattle.pl_journal.specs.declared.entry.Entry.TheVariants.{Registered};
+ghost use Rattle.pl_script_rule.specs.Expecting.{IsNewest, arrivals, ended_settled, endings, grant_in, is_arrival_at, is_end_for, is_outcome, is_settled};
+ghost use Rattle.pl_player.specs.Newest.{IsReadOf, counted, exceeds, is_number, is_one_of, registration_in};
 
 use pl_frame::Memory;
 use pl_journal::{Cause, Entry};
@@ -48,48 +49,82 @@ pub(crate) fn endings(journal: &[Entry], cause: Cause) -> usize
         .count()
 }
 
-fn granted_to(h: HostNo, entry: &Entry) -> Option<Pmac>
-    ensures { result ≡ granted_to h entry.now }
+/// What a journal says of the addresses of a host so far: those that were granted to it last, the largest
+/// number under which one of them was registered, and whether one address has that number.
+#[derive(Drop)]
+struct HostAddresses {
+    own: Vec<Pmac>,
+    largest: Option<u64>,
+    is_it: bool,
+}
+
+impl HostAddresses {
+    // One more entry is read, of a host and one address.
+    fn read(&mut self, h: HostNo, pmac: Pmac, entry: &Entry) -> Result<(), Memory>
+        ensures { OnOk result ((past : List Entry) → IsReadOf h pmac past self.old → IsReadOf h pmac (entry.now ∷ past) self.new) }
+    {
+        match grant_in(entry) {
+            Some((granted, host)) => grant(&mut self.own, granted, host.0 == h.0),
+            None => {
+                self.read_registration(pmac, entry);
+                Ok(())
+            }
+        }
+    }
+
+    // The entry grants nothing.
+    fn read_registration(&mut self, pmac: Pmac, entry: &Entry)
+        ensures { (h : HostNo) (past : List Entry) → grant_in entry.now ≡ None → IsReadOf h pmac past self.old →
+            IsReadOf h pmac (entry.now ∷ past) self.new }
+    {
+        match registration_in(entry) {
+            Some((registered, number)) => self.register(
+                registered,
+                number,
+                is_same(registered, pmac),
+            ),
+            None => {}
+        }
+    }
+
+    // An address is registered: where it is the host's, its number counts.
+    fn register(&mut self, registered: Pmac, number: u64, is_it: bool)
+        ensures { self.new ≡ if is_one_of self.old.own.items registered then counted number is_it self.old else self.old }
+    {
+        if is_one_of(&self.own, registered) {
+            self.count(number, is_it);
+        }
+    }
+
+    fn count(&mut self, number: u64, is_it: bool)
+        ensures { self.new ≡ counted number is_it self.old }
+    {
+        if exceeds(number, self.largest) {
+            self.largest = Some(number);
+            self.is_it = is_it;
+        } else {
+            self.is_it = self.is_it || (is_it && is_number(number, self.largest));
+        }
+    }
+}
+
+fn grant_in(entry: &Entry) -> Option<(Pmac, HostNo)>
+    ensures { result ≡ grant_in entry.now }
 {
     match entry {
-        Entry::Granted(pmac, host, _, _) if host.0 == h.0 => Some(*pmac),
+        Entry::Granted(pmac, host, _, _) => Some((*pmac, *host)),
         _ => None,
     }
 }
 
-// The addresses that were granted to a host.
-fn grants_of(alloc: Global, journal: &[Entry], h: HostNo) -> Result<Vec<Pmac>, Memory>
-    ensures { IfOk result (λ grants. grants.items ≡ grants_of journal.now h) }
-{
-    journal
-        .iter()
-        .filter_map(|entry| granted_to(h, entry))
-        .collect(alloc)
-}
-
-fn is_one_of(pmacs: &[Pmac], pmac: Pmac) -> bool
-    ensures { result ≡ is_one_of pmacs.now pmac }
-{
-    pmacs.contains(&pmac)
-}
-
-fn number_in(pmacs: &[Pmac], entry: &Entry) -> Option<u64>
-    ensures { result ≡ number_in pmacs.now entry.now }
+fn registration_in(entry: &Entry) -> Option<(Pmac, u64)>
+    ensures is { result ≡ registration_in entry.now }
+    ensures entry { IfSome result (λ one. entry.now ≡ Registered one.0 one.1) }
 {
     match entry {
-        Entry::Registered(pmac, number) if is_one_of(pmacs, *pmac) => Some(*number),
+        Entry::Registered(pmac, number) => Some((*pmac, *number)),
         _ => None,
     }
-}
-
-// The largest number under which one of these addresses was registered.
-fn newest_number(journal: &[Entry], pmacs: &[Pmac]) -> Option<u64>
-    ensures { result ≡ reduce max (filter_map (number_in pmacs.now) journal.now) }
-{
-    journal
-        .iter()
-        .filter_map(|entry| number_in(pmacs, entry))
-        .max()
 }
 
 fn is_same(a: Pmac, b: Pmac) -> bool
@@ -98,31 +133,60 @@ fn is_same(a: Pmac, b: Pmac) -> bool
     a == b
 }
 
-fn is_registered_by(pmac: Pmac, number: u64, entry: &Entry) -> bool
-    ensures { result ≡ is_registered_by pmac number entry.now }
+fn is_one_of(pmacs: &[Pmac], pmac: Pmac) -> bool
+    ensures { result ≡ is_one_of pmacs.now pmac }
 {
-    match entry {
-        Entry::Registered(other, n) => is_same(*other, pmac) && *n == number,
-        _ => false,
+    pmacs.contains(&pmac)
+}
+
+fn exceeds(number: u64, largest: Option<u64>) -> bool
+    ensures { result ≡ exceeds number largest }
+{
+    match largest {
+        Some(largest) => largest < number,
+        None => true,
     }
 }
 
-fn is_registered(journal: &[Entry], pmac: Pmac, number: u64) -> bool
-    ensures { result ≡ list_any (is_registered_by pmac number) journal.now }
+fn is_number(number: u64, largest: Option<u64>) -> bool
+    ensures { result ≡ is_number number largest }
 {
-    journal
-        .iter()
-        .any(|entry| is_registered_by(pmac, number, entry))
+    match largest {
+        Some(largest) => largest == number,
+        None => false,
+    }
 }
 
-// Whether an address is one of these, and was registered under a number.
-fn has_number(journal: &[Entry], pmacs: &[Pmac], pmac: Pmac, number: u64) -> bool
-    ensures { result ≡ (is_one_of pmacs.now pmac && list_any (is_registered_by pmac number) journal.now) }
+// An address is granted to the host, or to another one.
+fn grant(own: &mut Vec<Pmac>, pmac: Pmac, is_to_host: bool) -> Result<(), Memory>
+    ensures { OnOk result ((x : Pmac) → is_one_of own.new.items x ≡ if same_pmac pmac x then is_to_host else is_one_of own.old.items x) }
 {
-    is_one_of(pmacs, pmac) && is_registered(journal, pmac, number)
+    if is_to_host {
+        add(own, pmac)
+    } else {
+        leave_out(own, pmac);
+        Ok(())
+    }
 }
 
-/// Whether an address has the largest number of those that were registered and granted to a host.
+fn add(own: &mut Vec<Pmac>, pmac: Pmac) -> Result<(), Memory>
+    ensures { OnOk result ((x : Pmac) → is_one_of own.new.items x ≡ (same_pmac pmac x || is_one_of own.old.items x)) }
+{
+    if is_one_of(own, pmac) {
+        return Ok(());
+    }
+    own.push(pmac)?;
+    Ok(())
+}
+
+fn leave_out(own: &mut Vec<Pmac>, pmac: Pmac)
+    ensures { (x : Pmac) → is_one_of own.new.items x ≡ (not (same_pmac pmac x) && is_one_of own.old.items x) }
+{
+    own.retain(|one| !is_same(*one, pmac));
+}
+
+/// Whether an address has the largest number of those that were registered while they were granted to a
+/// host last.
 pub(crate) fn is_newest(
     alloc: Global,
     journal: &[Entry],
@@ -131,11 +195,15 @@ pub(crate) fn is_newest(
 ) -> Result<bool, Memory>
     ensures { IfOk result (λ is. IsTrue is ↔ IsNewest journal.now h pmac) }
 {
-    let grants = grants_of(alloc, journal, h)?;
-    match newest_number(journal, &grants) {
-        None => Ok(false),
-        Some(number) => Ok(has_number(journal, &grants, pmac, number)),
+    let mut addresses = HostAddresses {
+        own: Vec::new(alloc),
+        largest: None,
+        is_it: false,
+    };
+    for entry in journal {
+        addresses.read(h, pmac, entry)?;
     }
+    Ok(addresses.is_it)
 }
 
 fn is_outcome(entry: &Entry) -> bool

@@ -1,10 +1,11 @@
 -- Addresses by what finds them.
-use Rattle.std.proofs.Common.{◌≡◌, ◌+◌, ◌&&◌, ◌||◌, not, ℕ, Bool, true, false, cond, List, [], ◌∷◌, ◌++◌, length, map, reverse, Option, Some, None, is_some, refl, sym, ap, ◌∙◌, subst}
+use Rattle.std.proofs.Common.{◌≡◌, ◌+◌, ◌&&◌, ◌||◌, not, ℕ, Bool, true, false, cond, List, [], ◌∷◌, ◌++◌, length, map, reverse, Option, Some, None, is_none, is_some, filter, refl, sym, ap, ◌∙◌, subst}
 use Rattle.std.specs.List.{AllByRecursion, IsDistinct, find, list_any}
-use Rattle.std.specs.Option.{option_map, option_or}
-use Rattle.std.specs.Map.{keys_of, lookup}
-use Rattle.std.proofs.lemmas.Bool.{false≢true, or_right}
-use Rattle.std.proofs.lemmas.List.{length-map, length-reverse, reverse-append}
+use Rattle.std.specs.Option.{option_and_then, option_map, option_or}
+use Rattle.std.specs.Map.{keys_of, lookup, remove_entry, values_of}
+use Rattle.std.proofs.lemmas.Bool.{and_parts, false≢true, or_right}
+use Rattle.std.proofs.lemmas.List.{append-nil, length-map, length-reverse, reverse-append}
+use Rattle.std.proofs.lemmas.Option.{none-some, same_Some}
 use Rattle.std.proofs.lemmas.List.Sorted.{IsPermutation-reverse}
 use Rattle.std.proofs.lemmas.Map.Keys.{IsDistinct-IsPermutation}
 use Rattle.indexmap.specs.IndexMap.{insert_entry}
@@ -14,15 +15,16 @@ use Rattle.pl_frame.specs.declared.address.Mac.{Mac}
 use Rattle.pl_pmac.specs.declared.pmac.Pmac.{Pmac}
 use Rattle.pl_pmac.specs.contracts.pmac.PmacPartialEq.TheImpl.{eq-value}
 use Rattle.pl_layouts.specs.Equality.{same_mac, same_pmac}
-use Rattle.pl_layouts.proofs.Exports.{pmac_is, pmac_itself}
-use Rattle.pl_node.specs.ManagerViews.{LearntAddress, Registration, is_newest_of, newest, registered_as}
-use Rattle.pl_manager_rule.specs.ManagerRule.{is_registered, leads_on, learnt_as, recalled, told_again, with_address}
-use Rattle.pl_manager_rule.proofs.Exports.{any_registered, find_mapped, newest_again, others_recalled, pmac_turned}
+use Rattle.pl_layouts.proofs.Exports.{mac_is, pmac_is, pmac_itself}
+use Rattle.pl_node.specs.ManagerViews.{LearntAddress, Registration, is_newest_of, is_trapped_to, newest, registered_as}
+use Rattle.pl_manager_rule.specs.ManagerRule.{ages_now, is_registered, leads_on, learnt_as, recalled, told_again}
+use Rattle.pl_manager_rule.specs.Repeats.{AreAlone}
+use Rattle.pl_manager_rule.proofs.Exports.{alone_filtered, alone_mapped, alone_recalled, any_registered, find_mapped, find_without, found_apart, found_passes, newest_again, none_recalled, others_recalled, pmac_turned}
 use Rattle.pl_registry.specs.declared.addresses.Known.{Known}
 use Rattle.pl_registry.specs.declared.addresses.Recall.{Recall}
 use Rattle.pl_registry.specs.declared.addresses.Registered.{Registered}
 use Rattle.pl_registry.specs.declared.addresses.Told.{Told}
-use Rattle.pl_registry.specs.Addresses.{FindAddresses, IsLed, IsLedFrom, learnt_at, learnt_of, newest_first, recall_of, registration_of, told_at}
+use Rattle.pl_registry.specs.Addresses.{FindAddresses, IsLedFrom, is_known_trapped_to, leading, learnt_at, learnt_of, newest_first, recall_of, registration_of, told_at, was_newest_of, with_address_as}
 use Rattle.pl_registry.proofs.Keys.{keys_are}
 use Rattle.pl_registry.proofs.Asking.{any_found, last_first}
 
@@ -41,6 +43,9 @@ looked_up x known = ap (λ same. lookup (same x) known) keys_are
 
 pub put_in : (x : Pmac) (told : Known) (known : Table) → insert_entry eq-value.it known x told ≡ insert_entry same_pmac known x told
 put_in x told known = ap (λ same. insert_entry same known x told) keys_are
+
+pub taken_out : (x : Pmac) (known : Table) → remove_entry (eq-value.it x) known ≡ remove_entry (same_pmac x) known
+taken_out x known = ap (λ same. remove_entry (same x) known) keys_are
 
 pub each_once : (known : Table) → IsDistinct eq-value.it (keys_of known) → IsDistinct same_pmac (keys_of known)
 each_once known once = subst (λ (same : Pmac → Pmac → Bool). IsDistinct same (keys_of known)) keys_are once
@@ -159,6 +164,16 @@ led_changes x to k = record {
   other = λ y v apart i. record (learnt_at y v) { recall = cond (apart i) (Some (recall_of to)) (option_map recall_of v.recall); aged = not (apart i) && v.aged };
 }
 
+-- it has aged
+abbrev pub aged_known : Known → Known
+aged_known known = record known { aged = true }
+
+pub aged_changes : (x : Pmac) (k : Known) → ChangesTo x k (aged_known k) (ages_now x)
+aged_changes x k = record {
+  same = λ i. record (learnt_at x k) { aged = pmac_itself x i || k.aged };
+  other = λ y v apart i. record (learnt_at y v) { aged = apart i || v.aged };
+}
+
 module _ (x : Pmac) (old new : Known) (change : LearntAddress → LearntAddress) (changes : ChangesTo x old new change) where
   others_stay : (es : Table) → AllByRecursion (λ y. same_pmac x y ≡ false) (keys_of es) → map change (map learnt_entry es) ≡ map learnt_entry es
   others_stay [] all = refl
@@ -187,7 +202,7 @@ module _ (x : Pmac) (old new : Known) (change : LearntAddress → LearntAddress)
   list_changed known once there = ap reverse (in_table known once there) ∙ sym (map-reverse change (map learnt_entry known))
 
 -- where it is not there, nothing changes
-pub nothing_led : (x : Pmac) (to : Recall) (es : Table) → lookup (same_pmac x) es ≡ None → map learnt_entry es ≡ map (leads_on x to.new to.number) (map learnt_entry es)
+nothing_led : (x : Pmac) (to : Recall) (es : Table) → lookup (same_pmac x) es ≡ None → map learnt_entry es ≡ map (leads_on x to.new to.number) (map learnt_entry es)
 nothing_led x to [] h = refl
 nothing_led x to (e ∷ es) h = by (λ j. nothing_led x to es j) (same_pmac x e.0) refl h
   where
@@ -197,9 +212,14 @@ nothing_led x to (e ∷ es) h = by (λ j. nothing_led x to es j) (same_pmac x e.
     by rest true same j = absurd (cc)
     by rest false same j = λ i. sym ((led_changes x to e.1).other e.0 e.1 (pmac_turned e.0 x ∙ same)) i ∷ rest j i
 
-pub something_led : (x : Pmac) (to : Recall) (es : Table) (k : Known) → IsDistinct same_pmac (keys_of es) → lookup (same_pmac x) es ≡ Some k →
-    map learnt_entry (insert_entry same_pmac es x (led_to to k)) ≡ map (leads_on x to.new to.number) (map learnt_entry es)
-something_led x to es k once there = in_table x k (led_to to k) (leads_on x to.new to.number) (led_changes x to k) es once there
+-- one leads on, if it is there
+pub led_list : (x : Pmac) (to : Recall) (es : Table) → IsDistinct same_pmac (keys_of es) →
+    newest_first (leading x to es (lookup (same_pmac x) es)) ≡ map (leads_on x to.new to.number) (newest_first es)
+led_list x to es once = by (lookup (same_pmac x) es) refl
+  where
+    by : (o : Option Known) → lookup (same_pmac x) es ≡ o → newest_first (leading x to es o) ≡ map (leads_on x to.new to.number) (newest_first es)
+    by None found = ap reverse (nothing_led x to es found) ∙ sym (map-reverse (leads_on x to.new to.number) (map learnt_entry es))
+    by (Some k) found = list_changed x k (led_to to k) (leads_on x to.new to.number) (led_changes x to k) es once found
 
 -- ---- an address is told again
 module _ (known after : Table) (latest : Latest) (x : Pmac) (told : Told) (k : Known) (found : FindAddresses known latest)
@@ -208,20 +228,55 @@ module _ (known after : Table) (latest : Latest) (x : Pmac) (told : Told) (k : K
   learnt_again =
       ap newest_first entries ∙ list_changed x k (told_ip told k) (told_again (told_at x told)) (told_changes x told k) known found.once there
 
-  pub is_with_address : newest_first after ≡ with_address (learnt_of (newest_first known)) (told_at x told)
-  is_with_address =
+  pub is_with_address : (number : ℕ) → newest_first after ≡ with_address_as number (learnt_of (newest_first known)) (told_at x told)
+  is_with_address number =
       let addresses = newest_first known in
-      let n = length addresses + 1 in
       learnt_again
       ∙ sym (ap (λ b. cond b (map (told_again (told_at x told)) addresses)
-      (learnt_as n (told_at x told) ∷ recalled (newest (learnt_of addresses) told.amac) x n addresses))
+      (learnt_as number (told_at x told) ∷ recalled (newest (learnt_of addresses) told.amac) x number addresses))
       (registered_where_known known x found.once ∙ ap is_some there))
 
   pub found_still : IsDistinct same_pmac (keys_of after) → FindAddresses after latest
   found_still once = record {
     once = once;
     newest = λ mac. ap (λ addresses. newest (learnt_of addresses) mac) learnt_again ∙ newest_again (told_at x told) (newest_first known) mac ∙ found.newest mac;
+    alone = λ mac. subst (AreAlone mac) (sym learnt_again) (alone_mapped mac (told_again (told_at x told)) (λ a is. is) (newest_first known) (found.alone mac));
   }
+
+-- ---- an address has aged
+newest_aged : (x : Pmac) (addresses : List LearntAddress) (mac : Mac) →
+    option_map registered_as (find (is_newest_of mac) (map (ages_now x) addresses)) ≡ option_map registered_as (find (is_newest_of mac) addresses)
+newest_aged x addresses mac =
+    ap (option_map registered_as) (find_mapped (is_newest_of mac) (ages_now x) addresses) ∙ same (find (is_newest_of mac) addresses)
+  where
+    same : (o : Option LearntAddress) → option_map registered_as (option_map (ages_now x) o) ≡ option_map registered_as o
+    same None = refl
+    same (Some a) = refl
+
+module _ (known after : Table) (latest : Latest) (x : Pmac) (k : Known) (found : FindAddresses known latest)
+    (there : lookup (same_pmac x) known ≡ Some k) (entries : after ≡ insert_entry same_pmac known x (aged_known k)) where
+  pub is_aged : newest_first after ≡ map (ages_now x) (newest_first known)
+  is_aged = ap newest_first entries ∙ list_changed x k (aged_known k) (ages_now x) (aged_changes x k) known found.once there
+
+  pub found_aged : IsDistinct same_pmac (keys_of after) → FindAddresses after latest
+  found_aged once = record {
+    once = once;
+    newest = λ mac. ap (λ addresses. newest (learnt_of addresses) mac) is_aged ∙ newest_aged x (newest_first known) mac ∙ found.newest mac;
+    alone = λ mac. subst (AreAlone mac) (sym is_aged) (alone_mapped mac (ages_now x) (λ a is. is) (newest_first known) (found.alone mac));
+  }
+
+-- one of which nothing is known changes nothing
+nothing_aged : (x : Pmac) (es : Table) → lookup (same_pmac x) es ≡ None → map learnt_entry es ≡ map (ages_now x) (map learnt_entry es)
+nothing_aged x [] h = refl
+nothing_aged x (e ∷ es) h = by (λ j. nothing_aged x es j) (same_pmac x e.0) refl h
+  where
+    by : (lookup (same_pmac x) es ≡ None → map learnt_entry es ≡ map (ages_now x) (map learnt_entry es)) →
+        (b : Bool) → same_pmac x e.0 ≡ b → cond b (Some e.1) (lookup (same_pmac x) es) ≡ None → map learnt_entry (e ∷ es) ≡ map (ages_now x) (map learnt_entry (e ∷ es))
+    by rest true same j = absurd (cc)
+    by rest false same j = λ i. sym ((aged_changes x e.1).other e.0 e.1 (pmac_turned e.0 x ∙ same)) i ∷ rest j i
+
+pub none_aged : (x : Pmac) (known : Table) → lookup (same_pmac x) known ≡ None → newest_first known ≡ map (ages_now x) (newest_first known)
+none_aged x known none = ap reverse (nothing_aged x known none) ∙ sym (map-reverse (ages_now x) (map learnt_entry known))
 
 -- ---- an address is learnt
 found_then_any : {X : Type 0} (p q : X → Bool) (xs : List X) (x : X) → find p xs ≡ Some x → q x ≡ true → list_any q xs ≡ true
@@ -232,16 +287,13 @@ found_then_any p q (y ∷ xs) x found passes = by (λ j. found_then_any p q xs x
     by rest true j = let same : y ≡ x = cc in ap (λ z. q z || list_any q xs) same ∙ ap (λ b. b || list_any q xs) passes
     by rest false j = or_right (q y) (list_any q xs) (rest j)
 
-module _ (known put after : Table) (latest latest_after : Latest) (x : Pmac) (told : Told) (found : FindAddresses known latest)
+module _ (number : ℕ) (known put after : Table) (latest latest_after : Latest) (x : Pmac) (told : Told) (found : FindAddresses known latest)
     (fresh : lookup (same_pmac x) known ≡ None) where
-  abbrev number : ℕ
-  number = length (newest_first known) + 1
-
   abbrev first : Known
-  first = record { switch = told.switch; amac = told.amac; ip = told.ip; number = length (newest_first known) + 1; recall = None; aged = false }
+  first = record { switch = told.switch; amac = told.amac; ip = told.ip; number = number; recall = None; aged = false }
 
   abbrev to : Recall
-  to = record { new = x; number = length (newest_first known) + 1 }
+  to = record { new = x; number = number }
 
   -- the newest address of a host is another one
   other_one : (old : Registered) → lookup (same_mac told.amac) latest ≡ Some old → same_pmac x old.pmac ≡ false
@@ -261,11 +313,11 @@ module _ (known put after : Table) (latest latest_after : Latest) (x : Pmac) (to
           absurd (false≢true (sym (ap is_some fresh) ∙ subst (λ z. is_some (lookup (same_pmac z) known) ≡ true) (sym (pmac_is x old.pmac same)) there))
       by false other there = other
 
-  module _ (entries : put ≡ insert_entry same_pmac known x (record { switch = told.switch; amac = told.amac; ip = told.ip; number = length (newest_first known) + 1; recall = None; aged = false }))
+  module _ (entries : put ≡ insert_entry same_pmac known x (record { switch = told.switch; amac = told.amac; ip = told.ip; number = number; recall = None; aged = false }))
       (once : IsDistinct same_pmac (keys_of put))
-      (led : IsLedFrom (lookup (same_mac told.amac) latest) (record { new = x; number = length (newest_first known) + 1 }) put after) where
-    pub is_added : newest_first after ≡ learnt_as (length (newest_first known) + 1) (told_at x told)
-        ∷ recalled (newest (learnt_of (newest_first known)) told.amac) x (length (newest_first known) + 1) (newest_first known)
+      (led : IsLedFrom (lookup (same_mac told.amac) latest) (record { new = x; number = number }) put after) where
+    pub is_added : newest_first after ≡ learnt_as number (told_at x told)
+        ∷ recalled (newest (learnt_of (newest_first known)) told.amac) x number (newest_first known)
     is_added =
         by (lookup (same_mac told.amac) latest) refl led
         ∙ sym (ap (λ o. learnt_as number (told_at x told) ∷ recalled o x number (newest_first known)) (found.newest told.amac))
@@ -274,7 +326,7 @@ module _ (known put after : Table) (latest latest_after : Latest) (x : Pmac) (to
             newest_first after ≡ learnt_as number (told_at x told) ∷ recalled (option_map registration_of o) x number (newest_first known)
         by None is same = ap newest_first same ∙ newest_added known put x first fresh entries
         by (Some old) is leads =
-            ap reverse (leads.entries once) ∙ sym (map-reverse (leads_on old.pmac x number) (map learnt_entry put))
+            ap newest_first leads.entries ∙ led_list old.pmac to put once
             ∙ ap (map (leads_on old.pmac x number)) (newest_added known put x first fresh entries)
             ∙ ap (λ a. a ∷ map (leads_on old.pmac x number) (newest_first known)) ((led_changes old.pmac to first).other x first (other_one old is))
 
@@ -283,18 +335,194 @@ module _ (known put after : Table) (latest latest_after : Latest) (x : Pmac) (to
     same_keys (Some old) leads = leads.keys
 
     pub found_more : ((mac : Mac) → lookup (same_mac mac) latest_after
-        ≡ cond (same_mac told.amac mac) (Some (record { pmac = x; amac = told.amac; number = length (newest_first known) + 1; switch = told.switch })) (lookup (same_mac mac) latest)) →
+        ≡ cond (same_mac told.amac mac) (Some (record { pmac = x; amac = told.amac; number = number; switch = told.switch })) (lookup (same_mac mac) latest)) →
         FindAddresses after latest_after
     found_more names = record {
       once = subst (IsDistinct same_pmac) (sym (same_keys (lookup (same_mac told.amac) latest) led)) once;
       newest = λ mac. ap (λ addresses. newest (learnt_of addresses) mac) is_added ∙ by mac (same_mac told.amac mac) refl
           ∙ ap (option_map registration_of) (sym (names mac));
+      alone = λ mac. subst (AreAlone mac) (sym is_added) (
+        (λ is. subst (λ (m : Mac). find (is_newest_of m) (recalled (newest (learnt_of (newest_first known)) told.amac) x number (newest_first known)) ≡ None)
+            (mac_is told.amac mac (and_parts (same_mac told.amac mac) true is).0) (none_recalled (learnt_of (newest_first known)) told.amac x number (found.alone told.amac))),
+        alone_recalled (newest (learnt_of (newest_first known)) told.amac) x number mac (newest_first known) (found.alone mac),
+      );
     }
       where
         by : (mac : Mac) (b : Bool) → same_mac told.amac mac ≡ b →
             option_map registered_as (cond (b && true) (Some (learnt_as number (told_at x told)))
             (find (is_newest_of mac) (recalled (newest (learnt_of (newest_first known)) told.amac) x number (newest_first known))))
-            ≡ option_map registration_of (cond b (Some (record { pmac = x; amac = told.amac; number = length (newest_first known) + 1; switch = told.switch })) (lookup (same_mac mac) latest))
+            ≡ option_map registration_of (cond b (Some (record { pmac = x; amac = told.amac; number = number; switch = told.switch })) (lookup (same_mac mac) latest))
         by mac true same = refl
         by mac false other =
             others_recalled (learnt_of (newest_first known)) told.amac x number mac other (listed_once known found.once) ∙ found.newest mac
+
+-- ---- an address is forgotten
+not_there_kept : (x : Pmac) (es : Table) → AllByRecursion (λ y. same_pmac x y ≡ false) (keys_of es) →
+    filter (λ a. not (same_pmac a.pmac x)) (map learnt_entry es) ≡ map learnt_entry es
+not_there_kept x [] all = refl
+not_there_kept x (e ∷ es) all =
+    let left : List LearntAddress = filter (λ a. not (same_pmac a.pmac x)) (map learnt_entry es) in
+    ap (λ b. cond (not b) (learnt_entry e ∷ left) left) (pmac_turned e.0 x ∙ all.0) ∙ ap (λ ls. learnt_entry e ∷ ls) (not_there_kept x es all.1)
+
+list_without : (x : Pmac) (es : Table) → IsDistinct same_pmac (keys_of es) →
+    map learnt_entry (remove_entry (same_pmac x) es) ≡ filter (λ a. not (same_pmac a.pmac x)) (map learnt_entry es)
+unfolding IsDistinct
+list_without x [] once = refl
+list_without x (e ∷ es) once = by (list_without x es once.1) (same_pmac x e.0) refl
+  where
+    left : List LearntAddress
+    left = filter (λ a. not (same_pmac a.pmac x)) (map learnt_entry es)
+
+    by : map learnt_entry (remove_entry (same_pmac x) es) ≡ left → (b : Bool) → same_pmac x e.0 ≡ b →
+        map learnt_entry (cond b es (e ∷ remove_entry (same_pmac x) es)) ≡ cond (not (same_pmac e.0 x)) (learnt_entry e ∷ left) left
+    by rest true same =
+        sym (not_there_kept x es (subst (λ z. AllByRecursion (λ y. same_pmac z y ≡ false) (keys_of es)) (sym (pmac_is x e.0 same)) once.0))
+        ∙ sym (ap (λ b. cond (not b) (learnt_entry e ∷ left) left) (pmac_turned e.0 x ∙ same))
+    by rest false other = ap (λ ls. learnt_entry e ∷ ls) rest ∙ sym (ap (λ b. cond (not b) (learnt_entry e ∷ left) left) (pmac_turned e.0 x ∙ other))
+
+filter_push : {X : Type 0} (q : X → Bool) (xs : List X) (x : X) → filter q (xs ++ x ∷ []) ≡ filter q xs ++ cond (q x) (x ∷ []) []
+filter_push q [] x = refl
+filter_push q (y ∷ xs) x = by (q y) (filter_push q xs x)
+  where
+    by : (b : Bool) → filter q (xs ++ x ∷ []) ≡ filter q xs ++ cond (q x) (x ∷ []) [] →
+        cond b (y ∷ filter q (xs ++ x ∷ [])) (filter q (xs ++ x ∷ [])) ≡ cond b (y ∷ filter q xs) (filter q xs) ++ cond (q x) (x ∷ []) []
+    by true rest = ap (λ zs. y ∷ zs) rest
+    by false rest = rest
+
+filter_reversed : {X : Type 0} (q : X → Bool) (xs : List X) → filter q (reverse xs) ≡ reverse (filter q xs)
+filter_reversed q [] = refl
+filter_reversed q (x ∷ xs) =
+    ap (filter q) (reverse-append (x ∷ []) xs) ∙ filter_push q (reverse xs) x ∙ ap (λ ys. ys ++ cond (q x) (x ∷ []) []) (filter_reversed q xs) ∙ by (q x)
+  where
+    by : (b : Bool) → reverse (filter q xs) ++ cond b (x ∷ []) [] ≡ reverse (cond b (x ∷ filter q xs) (filter q xs))
+    by true = sym (reverse-append (x ∷ []) (filter q xs))
+    by false = append-nil (reverse (filter q xs))
+
+-- in a list without repetitions the address that is found is the one that has the name
+same_entry : (test : LearntAddress → Bool) (x : Pmac) (list : List LearntAddress) (a b : LearntAddress) → IsDistinct same_pmac (map (λ c. c.pmac) list) →
+    find test list ≡ Some b → find (λ c. same_pmac c.pmac x) list ≡ Some a → same_pmac b.pmac x ≡ true → b ≡ a
+unfolding IsDistinct
+same_entry test x [] a b once found there own = absurd (none-some b found)
+same_entry test x (c ∷ list) a b once found there own = by (λ j k. same_entry test x list a b once.1 j k own) (test c) (same_pmac c.pmac x) refl found there
+  where
+    by : (find test list ≡ Some b → find (λ c. same_pmac c.pmac x) list ≡ Some a → b ≡ a) → (passes named : Bool) → same_pmac c.pmac x ≡ named →
+        cond passes (Some c) (find test list) ≡ Some b → cond named (Some c) (find (λ c. same_pmac c.pmac x) list) ≡ Some a → b ≡ a
+    by rest true true is j k = sym (same_Some c b j) ∙ same_Some c a k
+    by rest true false is j k = absurd (false≢true (sym is ∙ subst (λ (z : LearntAddress). same_pmac z.pmac x ≡ true) (sym (same_Some c b j)) own))
+    by rest false true is j k =
+        absurd (false≢true (sym (found_apart test c.pmac list b j once.0)
+        ∙ subst (λ (z : Pmac). same_pmac c.pmac z ≡ true) (sym (pmac_is b.pmac x own)) is))
+    by rest false false is j k = rest j k
+
+-- one that leads to no newer one is the newest of its host
+alone_is : (mac : Mac) (x : Pmac) (list : List LearntAddress) (a : LearntAddress) → AreAlone mac list → find (λ c. same_pmac c.pmac x) list ≡ Some a → is_newest_of mac a ≡ true →
+    find (is_newest_of mac) list ≡ Some a
+alone_is mac x [] a alone there passes = absurd (none-some a there)
+alone_is mac x (c ∷ list) a alone there passes = by (λ k. alone_is mac x list a alone.1 k passes) (same_pmac c.pmac x) (is_newest_of mac c) refl there
+  where
+    by : (find (λ c. same_pmac c.pmac x) list ≡ Some a → find (is_newest_of mac) list ≡ Some a) → (named newest : Bool) → is_newest_of mac c ≡ newest →
+        cond named (Some c) (find (λ c. same_pmac c.pmac x) list) ≡ Some a → cond newest (Some c) (find (is_newest_of mac) list) ≡ Some a
+    by rest true true is k = k
+    by rest true false is k = absurd (false≢true (sym is ∙ subst (λ (z : LearntAddress). is_newest_of mac z ≡ true) (sym (same_Some c a k)) passes))
+    by rest false true is k = absurd (none-some a (sym (alone.0 is) ∙ rest k))
+    by rest false false is k = rest k
+
+pub is_forgotten : (known after : Table) (x : Pmac) → IsDistinct same_pmac (keys_of known) → after ≡ remove_entry (same_pmac x) known →
+    newest_first after ≡ filter (λ a. not (same_pmac a.pmac x)) (newest_first known)
+is_forgotten known after x once entries =
+    ap newest_first entries ∙ ap reverse (list_without x known once) ∙ sym (filter_reversed (λ (a : LearntAddress). not (same_pmac a.pmac x)) (map learnt_entry known))
+
+module _ (known after : Table) (latest latest_after : Latest) (x : Pmac) (k : Known) (found : FindAddresses known latest)
+    (there : lookup (same_pmac x) known ≡ Some k) (entries : after ≡ remove_entry (same_pmac x) known) where
+  listed : find (λ c. same_pmac c.pmac x) (newest_first known) ≡ Some (learnt_at x k)
+  listed = found_at x known found.once ∙ ap (option_map (learnt_at x)) there
+
+  -- the newest address of a host is left, but where it is that one
+  newest_left : (mac : Mac) → option_map registered_as (find (is_newest_of mac) (filter (λ a. not (same_pmac a.pmac x)) (newest_first known)))
+      ≡ cond (is_newest_of mac (learnt_at x k)) None (option_map registered_as (find (is_newest_of mac) (newest_first known)))
+  newest_left mac =
+      ap (option_map registered_as) (find_without mac (λ a. not (same_pmac a.pmac x)) (newest_first known) (found.alone mac))
+      ∙ by (find (is_newest_of mac) (newest_first known)) refl
+    where
+      neither : (c : Bool) → ◌≡◌ {A = Option Registration} None (cond c None None)
+      neither true = refl
+      neither false = refl
+
+      by : (o : Option LearntAddress) → find (is_newest_of mac) (newest_first known) ≡ o →
+          option_map registered_as (option_and_then (λ a. cond (not (same_pmac a.pmac x)) (Some a) None) o) ≡ cond (is_newest_of mac (learnt_at x k)) None (option_map registered_as o)
+      by None at = neither (is_newest_of mac (learnt_at x k))
+      by (Some b) at = either (same_pmac b.pmac x) (is_newest_of mac (learnt_at x k)) refl refl
+        where
+          either : (own newest : Bool) → same_pmac b.pmac x ≡ own → is_newest_of mac (learnt_at x k) ≡ newest →
+              option_map registered_as (cond (not own) (Some b) None) ≡ cond newest None (Some (registered_as b))
+          either true true own is = refl
+          either true false own is =
+              let same : b ≡ learnt_at x k = same_entry (is_newest_of mac) x (newest_first known) (learnt_at x k) b (listed_once known found.once) at listed own in
+              absurd (false≢true (sym is ∙ subst (λ (z : LearntAddress). is_newest_of mac z ≡ true) same (found_passes (is_newest_of mac) (newest_first known) b at)))
+          either false true own is =
+              let same : b ≡ learnt_at x k = same_Some b (learnt_at x k) (sym at ∙ alone_is mac x (newest_first known) (learnt_at x k) (found.alone mac) listed is) in
+              absurd (false≢true (sym own ∙ subst (λ (z : LearntAddress). same_pmac z.pmac x ≡ true) (sym same) (pmac_itself x)))
+          either false false own is = refl
+
+  is_list : newest_first after ≡ filter (λ a. not (same_pmac a.pmac x)) (newest_first known)
+  is_list = is_forgotten known after x found.once entries
+
+  -- the other table has it no more
+  found_without : IsDistinct same_pmac (keys_of after) →
+      ((mac : Mac) → lookup (same_mac mac) latest_after ≡ cond (is_newest_of mac (learnt_at x k)) None (lookup (same_mac mac) latest)) → FindAddresses after latest_after
+  found_without once names = record {
+    once = once;
+    newest = λ mac.
+        ap (λ addresses. newest (learnt_of addresses) mac) is_list ∙ newest_left mac ∙ ap (cond (is_newest_of mac (learnt_at x k)) None) (found.newest mac)
+        ∙ of_table (is_newest_of mac (learnt_at x k)) (lookup (same_mac mac) latest) ∙ ap (option_map registration_of) (sym (names mac));
+    alone = λ mac. subst (AreAlone mac) (sym is_list) (alone_filtered mac (λ a. not (same_pmac a.pmac x)) (newest_first known) (found.alone mac));
+  }
+    where
+      of_table : (b : Bool) (o : Option Registered) → cond b None (option_map registration_of o) ≡ option_map registration_of (cond b None o)
+      of_table true o = refl
+      of_table false o = refl
+
+none_left : (x : Pmac) (es : Table) → lookup (same_pmac x) es ≡ None → remove_entry (same_pmac x) es ≡ es
+none_left x [] none = refl
+none_left x (e ∷ es) none = by (same_pmac x e.0) (none_left x es) none
+  where
+    by : (b : Bool) → (lookup (same_pmac x) es ≡ None → remove_entry (same_pmac x) es ≡ es) → cond b (Some e.1) (lookup (same_pmac x) es) ≡ None →
+        cond b es (e ∷ remove_entry (same_pmac x) es) ≡ e ∷ es
+    by true rest is = absurd (none-some e.1 (sym is))
+    by false rest is = ap (λ left. e ∷ left) (rest is)
+
+leads_nowhere : (o : Option Recall) → is_none o ≡ is_none (option_map recall_of o)
+leads_nowhere None = refl
+leads_nowhere (Some recall) = refl
+
+-- whether it was known or not
+pub found_left : (known after : Table) (latest latest_after : Latest) (x : Pmac) (o : Option Known) → FindAddresses known latest → lookup (same_pmac x) known ≡ o →
+    after ≡ remove_entry (same_pmac x) known → IsDistinct same_pmac (keys_of after) →
+    ((mac : Mac) → lookup (same_mac mac) latest_after ≡ cond (was_newest_of mac o) None (lookup (same_mac mac) latest)) → FindAddresses after latest_after
+found_left known after latest latest_after x None found there entries once names =
+    let same : after ≡ known = entries ∙ none_left x known there in
+    record {
+      once = once;
+      newest = λ mac. ap (λ (es : Table). newest (learnt_of (newest_first es)) mac) same ∙ found.newest mac ∙ ap (option_map registration_of) (sym (names mac));
+      alone = λ mac. subst (λ (es : Table). AreAlone mac (newest_first es)) (sym same) (found.alone mac);
+    }
+found_left known after latest latest_after x (Some k) found there entries once names =
+    found_without known after latest latest_after x k found there entries once
+    (λ mac. names mac ∙ ap (λ b. cond (same_mac k.amac mac && b) None (lookup (same_mac mac) latest)) (leads_nowhere k.recall))
+
+-- ---- traps that stand
+any_push : {X : Type 0} (q : X → Bool) (xs : List X) (x : X) → list_any q (xs ++ x ∷ []) ≡ (q x || list_any q xs)
+any_push q [] x = refl
+any_push q (y ∷ xs) x = ap (λ b. q y || b) (any_push q xs x) ∙ turn (q y) (q x) (list_any q xs)
+  where
+    turn : (a b c : Bool) → (a || (b || c)) ≡ (b || (a || c))
+    turn true true c = refl
+    turn true false c = refl
+    turn false b c = refl
+
+-- one that leads to this address is in the list where it is in the table
+pub trapped_listed : (x : Pmac) (known : Table) → list_any (is_known_trapped_to x) (values_of known) ≡ list_any (is_trapped_to x) (newest_first known)
+trapped_listed x [] = refl
+trapped_listed x (e ∷ es) =
+    ap (λ b. is_known_trapped_to x e.1 || b) (trapped_listed x es) ∙ sym (any_push (is_trapped_to x) (newest_first es) (learnt_entry e))
+    ∙ sym (ap (list_any (is_trapped_to x)) (reverse-append (learnt_entry e ∷ []) (map learnt_entry es)))

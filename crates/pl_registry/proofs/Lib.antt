@@ -4,3 +4,4 @@ pub mod Telling
 pub mod Finding
 pub mod Counting
 pub mod Asking
+pub mod Releasing

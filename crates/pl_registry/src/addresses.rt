@@ -1,9 +1,13 @@
-ghost use Rattle.std.specs.Prelude.{◌≡◌, ◌+◌, ◌∷◌, [], IfOk, IsOk, OnErr, OnOk, find, length, option_map, if◌then◌else◌, Some, None, false};
+ghost use Rattle.std.specs.Prelude.{◌≡◌, ◌∷◌, [], if◌then◌else◌, IfOk, IsOk, OnErr, OnOk, find, map, not, option_map, None, Some, false};
+ghost use Rattle.std.specs.List.{filter, list_any};
+ghost use Rattle.std.specs.Map.{lookup};
 ghost use Rattle.std.specs.Option.{option_and_then};
-ghost use Rattle.pl_layouts.specs.Equality.{same_pmac};
-ghost use Rattle.pl_node.specs.ManagerViews.{newest, registration};
-ghost use Rattle.pl_manager_rule.specs.ManagerRule.{is_registered, learnt_as, recalled, with_address};
-ghost use Rattle.pl_registry.specs.Addresses.{IsLed, IsLedFrom, learnt_at, learnt_of, registration_of, told_at};
+ghost use Rattle.indexmap.specs.IndexMap.{values};
+ghost use Rattle.pl_frame.specs.declared.address.Mac.{Mac};
+ghost use Rattle.pl_layouts.specs.Equality.{same_mac, same_pmac};
+ghost use Rattle.pl_node.specs.ManagerViews.{is_led_to, newest, registration};
+ghost use Rattle.pl_manager_rule.specs.ManagerRule.{ages_now, is_registered, learnt_as, recalled};
+ghost use Rattle.pl_registry.specs.Addresses.{IsLed, IsLedFrom, is_known_trapped_to, learnt_at, learnt_of, registration_of, told_at, was_newest_of, with_address_as};
 
 use indexmap::IndexMap;
 use pl_frame::{Ip4, Mac, SwitchId};
@@ -49,8 +53,8 @@ pub(crate) struct Registered {
     pub(crate) switch: SwitchId,
 }
 
-/// The pseudo addresses in the order in which they were first learnt, and the newest of each host.
-/// Contracts see the list of them, the newest first.
+/// The pseudo addresses in the order in which they were first learnt, and the newest of each host. One that
+/// was forgotten is not among them. Contracts see the list of them, the newest first.
 #[derive(Debug, Drop)]
 pub(crate) struct Addresses {
     known: IndexMap<Pmac, Known>,
@@ -95,14 +99,6 @@ impl Addresses {
         known.ip
     }
 
-    // What is known of a pseudo address.
-    fn known_at(&self, pmac: Pmac) -> Option<Known>
-        ensures address { find (λ a. same_pmac a.pmac pmac) self.now ≡ option_map (learnt_at pmac) result }
-        ensures host { option_map (λ r. r.amac) (registration (learnt_of self.now) pmac) ≡ option_map (λ k. k.amac) result }
-    {
-        self.known.get(&pmac).copied()
-    }
-
     /// The newest address of a host.
     pub(crate) fn newest(&self, amac: Mac) -> Option<Registered>
         ensures { option_map registration_of result ≡ newest (learnt_of self.now) amac }
@@ -110,33 +106,35 @@ impl Addresses {
         self.newest.get(&amac).copied()
     }
 
-    /// A switch tells a pseudo address. The answer is its number where it was not known.
-    pub(crate) fn learn(&mut self, pmac: Pmac, told: Told) -> Result<Option<u64>, Memory>
-        ensures ok { OnOk result (self.new ≡ with_address (learnt_of self.old) (told_at pmac told)) }
-        ensures number { IfOk result (λ number. number ≡ (if is_registered self.old pmac then None else Some (length self.old + 1))) }
+    /// A switch tells a pseudo address, which gets this number where it is not known. The answer is whether
+    /// that is so.
+    pub(crate) fn learn(&mut self, pmac: Pmac, told: Told, number: u64) -> Result<bool, Memory>
+        ensures ok { OnOk result (self.new ≡ with_address_as number (learnt_of self.old) (told_at pmac told)) }
+        ensures new { IfOk result (λ new. new ≡ not (is_registered self.old pmac)) }
         ensures err { OnErr result (self.new ≡ self.old) }
     {
         match self.known.get(&pmac).copied() {
             Some(known) => {
                 let ip = told.ip.or(known.ip);
                 self.known.insert(pmac, Known { ip, ..known })?;
-                Ok(None)
+                Ok(false)
             }
-            None => Ok(Some(self.add(pmac, told)?)),
+            None => {
+                self.add(pmac, told, number)?;
+                Ok(true)
+            }
         }
     }
 
     // A pseudo address that was not known. Memory is taken for both tables before either is changed.
-    fn add(&mut self, pmac: Pmac, told: Told) -> Result<u64, Memory>
+    fn add(&mut self, pmac: Pmac, told: Told, number: u64) -> Result<(), Memory>
         requires { is_registered self.old pmac ≡ false }
-        ensures ok { OnOk result (self.new ≡ learnt_as (length self.old + 1) (told_at pmac told)
-            ∷ recalled (newest (learnt_of self.old) told.amac) pmac (length self.old + 1) self.old) }
-        ensures number { IfOk result (λ number. number ≡ length self.old + 1) }
+        ensures ok { OnOk result (self.new ≡ learnt_as number (told_at pmac told)
+            ∷ recalled (newest (learnt_of self.old) told.amac) pmac number self.old) }
         ensures err { OnErr result (self.new ≡ self.old) }
     {
         self.known.reserve(1)?;
         self.newest.reserve(1)?;
-        let number = self.known.len() as u64 + 1;
         let registered = Registered {
             pmac,
             amac: told.amac,
@@ -146,7 +144,83 @@ impl Addresses {
         let old = self.newest.insert(told.amac, registered)?;
         self.known.insert(pmac, first_known(told, number))?;
         lead_from(&mut self.known, old, Recall { new: pmac, number })?;
-        Ok(number)
+        Ok(())
+    }
+
+    /// What is known of a pseudo address.
+    pub(crate) fn known_at(&self, pmac: Pmac) -> Option<Known>
+        ensures address { find (λ a. same_pmac a.pmac pmac) self.now ≡ option_map (learnt_at pmac) result }
+        ensures host { option_map (λ r. r.amac) (registration (learnt_of self.now) pmac) ≡ option_map (λ k. k.amac) result }
+    {
+        self.known.get(&pmac).copied()
+    }
+
+    /// It was told that an address has aged.
+    pub(crate) fn set_aged(&mut self, pmac: Pmac) -> Result<(), Memory>
+        ensures ok { OnOk result (self.new ≡ map (ages_now pmac) self.old) }
+        ensures err { OnErr result (self.new ≡ self.old) }
+    {
+        match self.known.get(&pmac).copied() {
+            Some(known) => {
+                self.known.insert(
+                    pmac,
+                    Known {
+                        aged: true,
+                        ..known
+                    },
+                )?;
+                Ok(())
+            }
+            None => Ok(()),
+        }
+    }
+
+    /// Whether a trap that stands leads to an address: all of them are gone through.
+    pub(crate) fn is_led_to(&self, pmac: Pmac) -> bool
+        ensures { result ≡ is_led_to (learnt_of self.now) pmac }
+    {
+        is_any_trapped_to(&self.known, pmac)
+    }
+
+    /// An address is forgotten. The others stay in their order.
+    pub(crate) fn forget(&mut self, pmac: Pmac)
+        ensures { self.new ≡ filter (λ a. not (same_pmac a.pmac pmac)) self.old }
+    {
+        let known = self.known.shift_remove(&pmac);
+        leave_newest(&mut self.newest, known);
+    }
+}
+
+// What was known of an address that is forgotten: where it led to no newer one, its host has no newest one.
+fn leave_newest(newest: &mut IndexMap<Mac, Registered>, known: Option<Known>)
+    ensures { (mac : Mac) → lookup (same_mac mac) newest.new.entries ≡ if was_newest_of mac known then None else lookup (same_mac mac) newest.old.entries }
+{
+    if let Some(known) = known {
+        leave_host(newest, known);
+    }
+}
+
+fn leave_host(newest: &mut IndexMap<Mac, Registered>, known: Known)
+    ensures { (mac : Mac) → lookup (same_mac mac) newest.new.entries ≡ if was_newest_of mac (Some known) then None else lookup (same_mac mac) newest.old.entries }
+{
+    if known.recall.is_none() {
+        newest.swap_remove(&known.amac);
+    }
+}
+
+fn is_any_trapped_to(known: &IndexMap<Pmac, Known>, pmac: Pmac) -> bool
+    ensures { result ≡ list_any (is_known_trapped_to pmac) (values known.now) }
+{
+    known.values().any(|known| is_trapped_to(known, pmac))
+}
+
+// Whether a trap stands for an address, and leads to this one.
+fn is_trapped_to(known: &Known, pmac: Pmac) -> bool
+    ensures { result ≡ is_known_trapped_to pmac known.now }
+{
+    match known.recall {
+        Some(recall) => !known.aged && recall.new == pmac,
+        None => false,
     }
 }
 

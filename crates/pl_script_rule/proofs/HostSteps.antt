@@ -139,6 +139,7 @@ module _ (n : ℕ) (plan : Plan) (mine : Option HostView) where
       copied = λ id copy. refl;
       made = λ id s frame. refl;
       granted = λ pmac h s port. refl;
+      freed = λ pmac. refl;
       redirected = λ id old new. refl;
       taken = λ id s. refl;
     }

@@ -1,6 +1,7 @@
 -- A frame that is sure, from its sending to its arrival.
 use Rattle.std.proofs.Common.{◌≡◌, ◌<◌, ℕ, Bool, true, false, true≢false, List, [], ◌∷◌, length, Option, Some, option_map, slice_get, Contains, refl, sym, ap, ◌∙◌, subst, arith, ◌-◌}
 use Rattle.std.specs.List.{list_any}
+use Rattle.std.specs.Option.{option_and_then}
 use Rattle.std.proofs.lemmas.Option.{same_Some, slice_get-get_or, slice_get_within}
 use Rattle.hex.specs.Hex.{decode_pairs}
 use Rattle.pl_lemmas.proofs.Exports.{and_then_some, option_map_some}
@@ -12,6 +13,8 @@ use Rattle.pl_wiring.specs.Labels.{edge_count}
 use Rattle.pl_wiring.specs.Paths.{IsLivePath}
 use Rattle.pl_journal.specs.declared.entry.Entry.{Entry}
 use Rattle.pl_journal.specs.declared.entry.Entry.TheVariants.{Arrived, Crossed, Sent}
+use Rattle.pl_node.specs.AddressUses.{is_in_use}
+use Rattle.pl_node.specs.declared.switch_records.Grant.{Grant}
 use Rattle.pl_node.specs.ManagerViews.{newest}
 use Rattle.pl_node.specs.SwitchViews.{SwitchView}
 use Rattle.pl_switch_rule.specs.Granting.{granted}
@@ -24,7 +27,7 @@ use Rattle.pl_examples.specs.ExampleFrames.{a_to_b, a_to_b_arrived, mac_a, mac_b
 use Rattle.pl_examples.specs.FirstPath.{a, b, e00, two_hosts}
 use Rattle.pl_sure_example.specs.Deciding.{is_settled_world}
 use Rattle.pl_sure_example.specs.Executing.{made, then_made}
-use Rattle.pl_sure_example.specs.Scene.{Known, Snapshot, comes, granted_to, is_sent, known_as, known_of, leaves, plays, registered_as, snapshot, start, sure_with}
+use Rattle.pl_sure_example.specs.Scene.{Known, Snapshot, comes, is_sent, known_as, known_of, leaves, plays, registered_as, snapshot, start, sure_with}
 use Rattle.pl_sure_example.specs.Worked.{IsWorked}
 use Rattle.pl_sure_example.proofs.Executions.{AllLead}
 use Rattle.pl_sure_example.proofs.Sound.{at_index, none_there, settled_is}
@@ -38,7 +41,9 @@ contains_at xs n x is =
 abbrev registered : (w : WorldView) (h ip n : ℕ) (mac : Mac) (x : Pmac) (host : Host) → slice_get two_hosts.hosts h ≡ Some host → host.mac ≡ mac →
     host.ip ≡ record { 0 = ip } → known_of h mac x w ≡ known_as h mac ip x n → IsRegisteredBy w h x
 registered w h ip n mac x host at own own_ip is =
-    let grant = and_then_some (λ (v : SwitchView). granted v x) (slice_get w.switches 0) (granted_to mac ip) (ap (λ (k : Known). k.grant) is) in
+    let one = option_map_some (λ (g : Grant). (g.amac, is_in_use g.held)) (option_and_then (λ (v : SwitchView). granted v x) (slice_get w.switches 0)) (mac, true)
+    (ap (λ (k : Known). k.grant) is) in
+    let grant = and_then_some (λ (v : SwitchView). granted v x) (slice_get w.switches 0) one.0 one.1 in
     record {
       host = host;
       is = ap (λ (k : Known). k.host) is ∙ at;
@@ -49,10 +54,10 @@ registered w h ip n mac x host at own own_ip is =
       address = refl;
       edge = grant.0;
       there = grant.1;
-      grant = granted_to mac ip;
+      grant = one.0;
       found = grant.2;
-      used = refl;
-      by_host = sym own;
+      used = ap (λ (p : Mac × Bool). p.1) one.2;
+      by_host = ap (λ (p : Mac × Bool). p.0) one.2 ∙ sym own;
       at_port = refl;
       knows_ip = record {
         told = registered_as mac ip x n;

@@ -10,8 +10,7 @@ use Rattle.pl_wiring.specs.declared.link.Link.{Link}
 use Rattle.pl_journal.specs.declared.entry.Entry.{Entry}
 use Rattle.pl_journal.specs.declared.entry.Entry.TheVariants.{Sent}
 use Rattle.pl_journal.specs.Flights.{ends}
-use Rattle.pl_node.specs.declared.address_use.AddressUse.TheVariants.{InUse}
-use Rattle.pl_node.specs.declared.switch_records.Grant.{Grant}
+use Rattle.pl_node.specs.AddressUses.{is_in_use}
 use Rattle.pl_node.specs.ManagerViews.{Registration, ip_of, newest, registration}
 use Rattle.pl_switch_rule.specs.Granting.{granted}
 use Rattle.pl_world.specs.declared.event.Event.{Event}
@@ -74,7 +73,8 @@ pub record Known : Type 0 where
   pub host : Option Host
   pub attachment : Option AttachmentPoint
   pub newest_one : Option Registration
-  pub grant : Option Grant
+  -- the host to which the address was granted, and whether it uses it
+  pub grant : Option (Mac × Bool)
   pub told : Option Registration
   pub ip : Option Ip4
 
@@ -83,7 +83,7 @@ known_of h mac x w = record {
   host = slice_get w.plan.hosts h;
   attachment = slice_get w.attachments h;
   newest_one = newest w.manager.learnt mac;
-  grant = option_and_then (λ v. granted v x) (slice_get w.switches 0);
+  grant = option_map (λ g. (g.amac, is_in_use g.held)) (option_and_then (λ v. granted v x) (slice_get w.switches 0));
   told = registration w.manager.learnt x;
   ip = ip_of w.manager.learnt x;
 }
@@ -91,16 +91,13 @@ known_of h mac x w = record {
 abbrev pub registered_as : Mac → ℕ → Pmac → ℕ → Registration
 registered_as mac ip x n = record { pmac = x; amac = mac; number = n; switch = record { 0 = 1 } }
 
-abbrev pub granted_to : Mac → ℕ → Grant
-granted_to mac ip = record { amac = mac; ip = Some (record { 0 = ip }); held = InUse 0 }
-
 -- each is, by the address of its port
 abbrev pub known_as : ℕ → Mac → ℕ → Pmac → ℕ → Known
 known_as h mac ip x n = record {
   host = slice_get two_hosts.hosts h;
   attachment = Some (record { edge = e00; port = x.port });
   newest_one = Some (registered_as mac ip x n);
-  grant = Some (granted_to mac ip);
+  grant = Some (mac, true);
   told = Some (registered_as mac ip x n);
   ip = Some (record { 0 = ip });
 }

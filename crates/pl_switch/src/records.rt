@@ -40,6 +40,10 @@ impl KeepsRecords for ReferenceSwitch {
         self.state.invalidate(old, to, out)
     }
 
+    fn release(&mut self, pmac: Pmac, out: &mut Outbox) -> Result<(), Memory> {
+        self.state.release(pmac, out)
+    }
+
     fn hear_pod(&mut self, pod: u16, out: &mut Outbox) -> Result<(), Memory> {
         self.state.hear_pod(pod, out)
     }

@@ -6,6 +6,7 @@ use Rattle.pl_layouts.specs.Flow.{flow_hash}
 use Rattle.pl_switch_rule.specs.Forwarding.{Choice}
 use Rattle.pl_node.specs.Accounting.{AccountsForFrames, AllowsNoMore}
 use Rattle.pl_switch_rule.specs.SwitchRule.{Exact, IsChoice, Loose, by_flow}
+use Rattle.pl_switch_rule.proofs.AgingParts.{accounted_release, accounted_tick}
 use Rattle.pl_switch_rule.proofs.AllSteps.{HandlesFrames, exact_is_accounted, loose_is_accounted}
 use Rattle.pl_switch_rule.proofs.ComingIn.{data_comes_ends}
 use Rattle.pl_switch_rule.proofs.Managed.{accounted_answer, accounted_flood, accounted_invalidate}
@@ -16,6 +17,8 @@ handles_frames choose is_choice = record {
   answer = λ v asker asker_ip ip pmac shaped. accounted_answer choose v asker asker_ip ip pmac is_choice shaped;
   flood = accounted_flood choose;
   invalidate = accounted_invalidate choose;
+  tick = accounted_tick choose;
+  release = accounted_release choose;
 }
 
 -- number `hash modulo count` is one of them

@@ -1,5 +1,5 @@
 -- The first cause of a frame for this pod and position, of one that begins here, and of the reply to a sender.
-use Rattle.std.proofs.Common.{◌≡◌, ◌≤◌, ◌&&◌, not, ℕ, Bool, true, false, if◌then◌else◌, List, [], ◌∷◌, ◌++◌, length, Option, Some, None, is_some, refl, sym, ap, subst, ◌∙◌}
+use Rattle.std.proofs.Common.{◌≡◌, ◌≤◌, ◌&&◌, not, ℕ, Bool, true, false, if◌then◌else◌, List, [], ◌∷◌, ◌++◌, length, Option, Some, None, is_some, refl, sym, ap, subst, ◌∙◌, inl}
 use Rattle.std.proofs.lemmas.Bool.{cond_both}
 use Rattle.byteorder.specs.Endian.{big_bytes}
 use Rattle.pl_frame.specs.declared.address.Ip4.{Ip4}
@@ -25,7 +25,7 @@ use Rattle.pl_switch_rule.specs.CauseOf.{DropsFor, cause_at, cause_from_here, if
 use Rattle.pl_switch_rule.specs.Delivering.{addresses, arrives_home, begins, comes_home, delivers, delivers_or_redirects, delivers_to, destination, goes_on, grant_trap, last_trap, makes, redirects, tells_newer, tells_sender, trap_for}
 use Rattle.pl_switch_rule.specs.DropCauses.{address_after, first_drop}
 use Rattle.pl_switch_rule.specs.Forwarding.{Choice, candidates_by, forwards, leaves_by}
-use Rattle.pl_switch_rule.specs.Granting.{grant_number, granted, grants_at, is_granted, is_local}
+use Rattle.pl_switch_rule.specs.Granting.{grant_number, grants_at, held_here, is_local}
 use Rattle.pl_steps.specs.Steps.{SwitchStep, does}
 use Rattle.pl_switch_rule.specs.SwitchRule.{IsChoice}
 use Rattle.pl_switch_rule.proofs.Redirects.{new_destination, redirects_go_on}
@@ -62,16 +62,16 @@ goes_on_cause : (choose : Choice) (v : SwitchView) (sent : List ℕ) → IsChoic
     first_drop (goes_on choose v sent).acts ≡ cause_at v (destination sent)
 goes_on_cause choose v sent is_choice =
     either_first (is_local v (destination sent)) (delivers v sent) (forwards choose v (Some FromHost) sent)
-    (if is_granted v (destination sent) then None else Some NoAddress)
+    (if is_some (held_here v (destination sent)) then None else Some NoAddress)
     (if_nowhere (candidates_by v (destination sent) (Some FromHost)) NoNextHop)
-    (delivers_cause v (destination sent) sent (granted v (destination sent))) (forwards_cause choose v (Some FromHost) sent is_choice)
+    (delivers_cause v (destination sent) sent (held_here v (destination sent))) (forwards_cause choose v (Some FromHost) sent is_choice)
 
 home_cause : (choose : Choice) (v : SwitchView) (sent : List ℕ) (o : Option Trap) → IsChoice choose → is_local v (destination sent) ≡ true →
     first_drop (delivers_or_redirects choose v sent o).acts ≡ cause_at v (address_after v (destination sent) o)
 home_cause choose v sent None is_choice here =
-    let to_host : Option Cause = if is_granted v (destination sent) then None else Some NoAddress in
+    let to_host : Option Cause = if is_some (held_here v (destination sent)) then None else Some NoAddress in
     let away : Option Cause = if_nowhere (candidates_by v (destination sent) (Some FromHost)) NoNextHop in
-    delivers_cause v (destination sent) sent (granted v (destination sent))
+    delivers_cause v (destination sent) sent (held_here v (destination sent))
     ∙ sym (ap (λ b. if◌then◌else◌ {A = Option Cause} b to_host away) here)
 home_cause choose v sent (Some trap) is_choice here =
     let last : Pmac = (last_trap (addresses v) v trap).new in
@@ -90,7 +90,7 @@ no_trap_elsewhere v address other =
 cause_elsewhere : (v : SwitchView) (address : Pmac) → is_local v address ≡ false →
     if_nowhere (candidates_by v address (Some FromHost)) NoNextHop ≡ cause_from_here v address
 cause_elsewhere v address other =
-    let to_host : Option Cause = if is_granted v address then None else Some NoAddress in
+    let to_host : Option Cause = if is_some (held_here v address) then None else Some NoAddress in
     let away : Option Cause = if_nowhere (candidates_by v address (Some FromHost)) NoNextHop in
     sym (ap (λ b. if◌then◌else◌ {A = Option Cause} b to_host away) other)
     ∙ sym (ap (λ o. cause_at v (address_after v address o)) (no_trap_elsewhere v address other))
@@ -125,15 +125,15 @@ makes_drops_for choose v to a is_choice six =
 newer_drops_for : (choose : Choice) (sent : List ℕ) (new : Pmac) (v : SwitchView) (arp : Bool) (o : Option Ip4) → IsChoice choose → 14 ≤ length sent →
     DropsFor (if arp then does v [] else tells_newer choose sent new o v).acts None
     (if not arp && is_some o then cause_from_here v (pmac_of (source_of sent)) else None)
-newer_drops_for choose sent new v true o is_choice long = record { came = refl; made = refl; once = refl }
-newer_drops_for choose sent new v false None is_choice long = record { came = refl; made = refl; once = refl }
+newer_drops_for choose sent new v true o is_choice long = record { came = refl; made = refl; others = inl refl }
+newer_drops_for choose sent new v false None is_choice long = record { came = refl; made = refl; others = inl refl }
 newer_drops_for choose sent new v false (Some ip) is_choice long =
     makes_drops_for choose v (source_of sent) (record { op = 2; sha = mac_of new; spa = ip; tha = source_of sent; tpa = ip }) is_choice
     (source_has_six sent long)
 
 sender_drops_for : (choose : Choice) (sent : List ℕ) (o : Option Trap) (v : SwitchView) → IsChoice choose → 14 ≤ length sent →
     DropsFor (tells_sender choose sent o v).acts None (if is_told v (is_arp sent) o then cause_from_here v (pmac_of (source_of sent)) else None)
-sender_drops_for choose sent None v is_choice long = record { came = refl; made = refl; once = refl }
+sender_drops_for choose sent None v is_choice long = record { came = refl; made = refl; others = inl refl }
 sender_drops_for choose sent (Some trap) v is_choice long =
     let last : Trap = last_trap (addresses v) v trap in newer_drops_for choose sent last.new v (is_arp sent) last.ip is_choice long
 

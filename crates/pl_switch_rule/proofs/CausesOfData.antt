@@ -1,5 +1,5 @@
 -- The first cause of a data frame that comes at a switch, and of the reply to its sender.
-use Rattle.std.proofs.Common.{◌≡◌, ℕ, ◌&&◌, ◌||◌, not, Bool, true, false, if◌then◌else◌, List, [], ◌∷◌, Option, Some, None, is_some, is_none, refl, sym, ap, ap₂, subst, subst₂, ◌∙◌}
+use Rattle.std.proofs.Common.{◌≡◌, ℕ, ◌&&◌, ◌||◌, not, Bool, true, false, if◌then◌else◌, List, [], ◌∷◌, Option, Some, None, is_some, is_none, refl, sym, ap, ap₂, subst, subst₂, ◌∙◌, inl}
 use Rattle.pl_lemmas.proofs.Exports.{all_append}
 use Rattle.pl_frame.specs.declared.address.Mac.{Mac}
 use Rattle.pl_frame.specs.Ethernet.{destination_of, source_of}
@@ -118,7 +118,7 @@ either_meets true s t i j on reply a b = a
 either_meets false s t i j on reply a b = b
 
 refused_meets : (v : SwitchView) (cause : Cause) (on reply : Option Cause) → Meets (does v (Drop cause ∷ [])) (Refused cause) on reply
-refused_meets v cause on reply = record { came = refl; made = refl; once = refl }
+refused_meets v cause on reply = record { came = refl; made = refl; others = inl refl }
 
 taken_meets : (s : SwitchStep) (on reply : Option Cause) → AllGoOn s.acts → Meets (s ▹ takes) TakenIn on reply
 taken_meets s on reply all = drops_nothing (s ▹ takes).acts (all_append GoesOn s.acts (takes s.view).acts all (tt, tt))

@@ -1,6 +1,6 @@
 -- In each step frames are dropped for the first cause that holds.
-use Rattle.std.proofs.Common.{◌≡◌, not, ℕ, Bool, true, false, if◌then◌else◌, List, [], Option, Some, None, refl, sym, ap, subst, ◌∙◌}
-use Rattle.std.specs.List.{filter}
+use Rattle.std.proofs.Common.{◌≡◌, not, ℕ, Bool, true, false, if◌then◌else◌, List, [], Option, Some, None, refl, sym, ap, subst, ◌∙◌, inl}
+use Rattle.std.specs.List.{AllByRecursion, filter}
 use Rattle.std.proofs.lemmas.Bool.{cond_both}
 use Rattle.pl_frame.specs.declared.address.Ip4.{Ip4}
 use Rattle.pl_frame.specs.declared.address.Mac.{Mac}
@@ -16,7 +16,7 @@ use Rattle.pl_node.specs.AddressUses.{is_in_use}
 use Rattle.pl_node.specs.declared.switch_records.Grant.{Grant}
 use Rattle.pl_node.specs.SwitchViews.{SwitchView}
 use Rattle.pl_node.specs.declared.messages.ToSwitch.{ToSwitch}
-use Rattle.pl_node.specs.declared.messages.ToSwitch.TheVariants.{Answer, Avoid, Flood, Invalidate, Pod, Tree}
+use Rattle.pl_node.specs.declared.messages.ToSwitch.TheVariants.{Answer, Avoid, Flood, Invalidate, Pod, Release, Tree}
 use Rattle.pl_node.specs.declared.trap.Trap.{Trap}
 use Rattle.pl_journal.specs.declared.cause.Cause.{Cause}
 use Rattle.pl_journal.specs.declared.cause.Cause.TheVariants.{NoNextHop}
@@ -26,23 +26,23 @@ use Rattle.pl_layouts.specs.Control.{is_control}
 use Rattle.pl_layouts.specs.Memberships.{flood}
 use Rattle.pl_switch_rule.specs.declared.came.Came.TheVariants.{FromHost}
 use Rattle.pl_switch_rule.specs.Announcing.{ticks}
-use Rattle.pl_switch_rule.specs.CauseOf.{DropsFor, DropsForFirstCause, by_intake, cause_from_here, cause_of, cause_of_made, cause_of_message, cause_to, if_nowhere, if_sent_on, intake, reply_to}
+use Rattle.pl_switch_rule.specs.CauseOf.{DropsFor, DropsForFirstCause, IsNoDrop, by_intake, cause_from_here, cause_of, cause_of_made, cause_of_message, cause_to, if_nowhere, if_sent_on, intake, reply_to}
 use Rattle.pl_switch_rule.specs.Delivering.{makes}
 use Rattle.pl_switch_rule.specs.DropCauses.{seen}
 use Rattle.pl_switch_rule.specs.Forwarding.{Choice}
-use Rattle.pl_switch_rule.specs.Granting.{granted, is_granted}
+use Rattle.pl_switch_rule.specs.Granting.{granted, held_here, is_granted}
 use Rattle.pl_switch_rule.specs.GroupForwarding.{destination_group, forwards_group, group_ports_up, no_way}
 use Rattle.pl_switch_rule.specs.Intake.{is_member}
 use Rattle.pl_switch_rule.specs.Levels.{changes_to, with_pod}
-use Rattle.pl_switch_rule.specs.Messages.{answer_frame, flood_frame, floods, forgets_members, hears_manager, hears_pod, invalidates, probes, probes_at, sets_trap, takes_pod}
+use Rattle.pl_switch_rule.specs.Messages.{answer_frame, flood_frame, floods, forgets_members, frees, hears_manager, hears_pod, invalidates, probes, probes_at, sets_trap, takes_pod}
 use Rattle.pl_steps.specs.Steps.{SwitchStep, rests}
 use Rattle.pl_switch_rule.specs.SwitchRule.{Exact, IsChoice, Loose, control_comes, data_comes, switch_step}
 use Rattle.pl_switch_rule.proofs.AccountedSteps.{exact_is_loose}
 use Rattle.pl_switch_rule.proofs.CausesHere.{destination_of-arp_frame, makes_drops_for}
 use Rattle.pl_switch_rule.proofs.CausesOfData.{data_drops_for, passes_cause, passes_make_none}
 use Rattle.pl_switch_rule.proofs.SentFrames.{number_to}
-use Rattle.pl_switch_rule.proofs.FirstCauses.{drops_behind, drops_made, drops_nothing}
-use Rattle.pl_switch_rule.proofs.RowActs.{ChangeActs, groups_acts}
+use Rattle.pl_switch_rule.proofs.FirstCauses.{drops_behind, drops_made, drops_none, drops_nothing}
+use Rattle.pl_switch_rule.proofs.RowActs.{ChangeActs, frees_acts, groups_acts}
 use Rattle.pl_switch_rule.proofs.StepActs.{control_acts, ticks_acts}
 use Rattle.pl_switch_rule.proofs.FirstDrops.{AllGoOn, GoesOn}
 use Rattle.pl_switch_rule.proofs.LearntSources.{hears_changes_to}
@@ -56,8 +56,11 @@ control_comes_goes_on : (v : SwitchView) (port : ℕ) (frame : List ℕ) → All
 control_comes_goes_on v port frame =
     control_acts GoesOn v port frame (change_goes_on _) (record { granted = λ address amac. tt; learnt = λ address amac ip. tt }) (λ at told. tt)
 
-tick_goes_on : (v : SwitchView) → AllGoOn (ticks v).acts
-tick_goes_on v = ticks_acts GoesOn v (change_goes_on v.place) (λ port frame. tt)
+-- hosts may be probed at a tick, each of which probes goes out
+tick_drops_none : (v : SwitchView) → AllByRecursion IsNoDrop (ticks v).acts
+tick_drops_none v =
+    ticks_acts IsNoDrop v (record { placed = tt; linked = λ neighbour usable. tt; wanted = λ position. tt }) (λ port frame. tt) (λ port frame. tt) (λ frame. tt)
+    (λ address number. tt)
 
 -- Messages of the manager.
 
@@ -94,7 +97,7 @@ flood_drops_for choose v asker asker_ip ip =
 
 probe_drops_for : (old : Pmac) (amac : Mac) (o : Option Ip4) (v : SwitchView) → DropsFor (probes_at old amac o v).acts None None
 probe_drops_for old amac None v = drops_nothing [] tt
-probe_drops_for old amac (Some ip) v = record { came = refl; made = refl; once = refl }
+probe_drops_for old amac (Some ip) v = record { came = refl; made = refl; others = inl refl }
 
 probes_drop_for : (old : Pmac) (grant : Grant) (v : SwitchView) → DropsFor (probes old grant v).acts None None
 probes_drop_for old grant v =
@@ -122,7 +125,9 @@ says_drops_for choose v (Tree group part) is_choice = drops_nothing [] tt
 says_drops_for choose v (Answer asker asker_ip ip pmac) is_choice = answer_drops_for choose v asker asker_ip ip pmac is_choice
 says_drops_for choose v (Flood asker asker_ip ip) is_choice = flood_drops_for choose v asker asker_ip ip
 says_drops_for choose v (Invalidate old new number ip) is_choice =
-    invalidate_drops_for v old (record { new = new; number = number; ip = ip }) (granted v old)
+    invalidate_drops_for v old (record { new = new; number = number; ip = ip }) (held_here v old)
+says_drops_for choose v (Release address) is_choice =
+    drops_nothing (frees v address (granted v address)).acts (frees_acts GoesOn (λ x. tt) v address (granted v address))
 
 -- Each step.
 
@@ -140,7 +145,7 @@ step_drops_for choose v (Comes port frame) is_choice shaped coming =
     (by_intake (intake v port frame) (cause_to now port frame (destination_of frame)))
     (if_sent_on (intake v port frame) (reply_to now port frame (destination_of frame)))
     (data_drops_for choose v port frame is_choice shaped coming)
-step_drops_for choose v Tick is_choice shaped coming = drops_nothing (ticks v).acts (tick_goes_on v)
+step_drops_for choose v Tick is_choice shaped coming = drops_none (ticks v).acts (tick_drops_none v)
 step_drops_for choose v (Says says) is_choice shaped coming = says_drops_for choose v says is_choice
 
 pub loose_drops_for_first_cause : DropsForFirstCause Loose

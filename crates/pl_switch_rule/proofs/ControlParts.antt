@@ -6,7 +6,7 @@ use Rattle.byteorder.specs.Endian.{big_bytes}
 use Rattle.byteorder.specs.Numbers.{length-bytes_high_first}
 use Rattle.pl_lemmas.proofs.Exports.{all_append, all_filter}
 use Rattle.pl_frame.specs.declared.address.SwitchId.{SwitchId}
-use Rattle.pl_frame.specs.Ethernet.{Fields, frame_of}
+use Rattle.pl_frame.specs.Ethernet.{Fields}
 use Rattle.pl_frame.proofs.Exports.{fields_of-frame_of, length-frame_of}
 use Rattle.pl_node.specs.declared.acts.Act.TheVariants.{Control}
 use Rattle.pl_layouts.specs.declared.control.Control.TheVariants as control
@@ -14,7 +14,7 @@ use Rattle.pl_layouts.specs.declared.control.Control as declared
 use Rattle.pl_layouts.specs.declared.control.Ldm.{Ldm}
 use Rattle.pl_layouts.specs.declared.control.Proposal.{Proposal}
 use Rattle.pl_layouts.specs.declared.control.Vote.{Vote}
-use Rattle.pl_switch_rule.specs.Announcing.{announcements, announces_at, proposal, proposes_at, ticks, with_aged_ports}
+use Rattle.pl_switch_rule.specs.Announcing.{announcements, announces_at, proposal, proposes_at, tells_neighbours, with_aged_ports}
 use Rattle.pl_node.specs.PortRecords.{aged, id_at, place_at, ports_of_switch, ports_where}
 use Rattle.pl_node.specs.Announcements.{announcement, direction_of}
 use Rattle.pl_layouts.specs.Control.{bit, control_bytes, control_frame, control_group, id_code, ldm_bytes, level_code, pod_code, position_code, proposal_bytes, sender_of, vote_bytes}
@@ -120,7 +120,7 @@ quiet_hears_proposal v port edge p s within =
     quiet_either v (is_known v.place.level 1 && is_known (place_at v port).level 0 && nat_lt p.position (half v.k)) (answers_proposal freed port edge p) (rests v)
     (λ h. quiet_from v freed (answers_proposal freed port edge p) first (quiet_answers freed port edge p first.shaped within)) (λ h. quiet_self v s)
 
--- A tick.
+-- Neighbours are told at a tick.
 
 -- the ports of a switch are below k
 pub ports_within : (v : SwitchView) (test : ℕ → Bool) → AllByRecursion (λ port. port < v.k) (ports_where v test)
@@ -139,8 +139,8 @@ quiet_announcements v =
     (quiet_map v.k (λ port. port < v.k) (λ port. Control port (proposal v)) (ports_where v (proposes_at v)) (ports_within v (proposes_at v))
     (λ port within. control_is_sent v.k port (control.Proposal v.id (record { attempt = v.attempt; position = v.proposed })) within))
 
-pub quiet_ticks : (v : SwitchView) → IsShaped v → IsQuiet v (ticks v)
-quiet_ticks v s =
+pub quiet_neighbours : (v : SwitchView) → IsShaped v → IsQuiet v (tells_neighbours v)
+quiet_neighbours v s =
     let new = with_aged_ports v in
     quiet_step v new (changes_told v new ++ announcements new) (same_aged v s)
     (all_append (IsQuietAct v.k) (changes_told v new) (announcements new) (quiet_changes_told v.k v new) (quiet_announcements new))

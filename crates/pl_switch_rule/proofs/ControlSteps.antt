@@ -1,4 +1,4 @@
--- The steps in which no data frame comes or is made account for all frames: a control frame, a tick, and three messages of the manager.
+-- The steps in which no data frame comes or is made account for all frames: a control frame, and three messages of the manager.
 use Rattle.std.proofs.Common.{◌≡◌, ◌<◌, ℕ, true, false, if◌then◌else◌, List, Option, Result, Ok, Err, refl, sym, ap, subst, ◌∙◌, inl, inr}
 use Rattle.pl_frame.specs.declared.address.SwitchId.{SwitchId}
 use Rattle.pl_frame.specs.Ethernet.{payload_of}
@@ -7,7 +7,6 @@ use Rattle.pl_layouts.specs.declared.control.Control.TheVariants as control
 use Rattle.pl_layouts.specs.declared.control.ControlError.{ControlError}
 use Rattle.pl_node.specs.declared.messages.ToSwitch.TheVariants.{Avoid, Pod, Tree}
 use Rattle.pl_node.specs.declared.messages.TreePart.{TreePart}
-use Rattle.pl_switch_rule.specs.Announcing.{ticks}
 use Rattle.pl_layouts.specs.Control.{control_in, is_control}
 use Rattle.pl_switch_rule.specs.Forwarding.{Choice}
 use Rattle.pl_node.specs.Accounting.{IsComing, IsAccounted, IsShaped, FrameState, first_frame_state, is_said, frame_state}
@@ -18,13 +17,13 @@ use Rattle.pl_switch_rule.specs.Positions.{after_vote}
 use Rattle.pl_steps.specs.Steps.{SwitchStep, rests}
 use Rattle.pl_switch_rule.specs.SwitchRule.{control_comes, data_comes, hears_control, switch_step}
 use Rattle.pl_node.specs.SwitchInputs.{SwitchInput}
-use Rattle.pl_node.specs.SwitchInputs.SwitchInput.{Comes, Says, Tick}
+use Rattle.pl_node.specs.SwitchInputs.SwitchInput.{Comes, Says}
 use Rattle.pl_node.specs.SwitchViews.{SwitchView}
 use Rattle.pl_switch_rule.proofs.StepParts.{HasEnded, IsEnding, IsMaking, IsQuiet}
 use Rattle.pl_switch_rule.proofs.QuietActs.{quiet_either, quiet_self}
 use Rattle.pl_switch_rule.proofs.LevelParts.{quiet_changes_to, quiet_hears_message}
 use Rattle.pl_switch_rule.proofs.PositionParts.{same_after_vote}
-use Rattle.pl_switch_rule.proofs.ControlParts.{quiet_hears_proposal, quiet_ticks}
+use Rattle.pl_switch_rule.proofs.ControlParts.{quiet_hears_proposal}
 use Rattle.pl_switch_rule.proofs.MessageParts.{quiet_hears_pod, quiet_with_avoid, quiet_with_part}
 
 -- From parts to laws.
@@ -91,11 +90,6 @@ accounted_data choose v port frame is ending =
     ap (λ b. if◌then◌else◌ {A = SwitchStep} b (control_comes v port frame) (data_comes choose v port frame)) is in
     subst (λ t. IsAccounted v (Comes port frame) t.view t.acts) (sym step)
     (ending_is_accounted v (Comes port frame) (data_comes choose v port frame) waiting ending)
-
--- A tick.
-
-pub accounted_tick : (choose : Choice) (v : SwitchView) → IsShaped v → IsAccounted v Tick (switch_step choose v Tick).view (switch_step choose v Tick).acts
-accounted_tick choose v s = quiet_is_accounted v Tick (ticks v) refl (quiet_ticks v s)
 
 -- Messages.
 

@@ -16,7 +16,8 @@ use Rattle.pl_node.specs.declared.trap.Trap.{Trap}
 use Rattle.pl_switch_rule.specs.Delivering.{addresses, arrives_home, begins, comes_home, delivers, delivers_or_redirects, delivers_to, destination, goes_on, if_newer, is_trapped, last_trap, makes, newer_address, redirects, redirects_on, tells_newer, tells_sender, trap_for}
 use Rattle.pl_switch_rule.specs.Forwarding.{Choice, candidates_by, forwards, leaves_by}
 use Rattle.pl_layouts.specs.Frames.{arriving, is_arp}
-use Rattle.pl_switch_rule.specs.Granting.{grant_number, granted, grants_at, is_local}
+use Rattle.pl_node.specs.AddressUses.{is_held}
+use Rattle.pl_switch_rule.specs.Granting.{grant_number, granted, grants_at, held_here, is_local, unless_free}
 use Rattle.pl_node.specs.Accounting.{HasMac, IsFit, IsMade, IsShaped, IsWholeFrame, frame_state}
 use Rattle.pl_node.specs.Accounting.FrameState.{Redirected, Waiting}
 use Rattle.pl_steps.specs.Steps.{SwitchStep, does, ◌▹◌}
@@ -64,6 +65,14 @@ granted_at v address shaped =
     (got_at v.k address.port address.port v.grants (address.vmid - 1) (λ less. subst (λ n. address.port < n) shaped.grants less) shaped.granted))
     (λ other. tt)
 
+-- what is held was granted
+held_granted_at : (k port : ℕ) (o : Option Grant) → AreGrantedAt k port o → AreGrantedAt k port (unless_free o)
+held_granted_at k port None got = tt
+held_granted_at k port (Some grant) got = cond_both (is_held grant.held) (Some grant) None (AreGrantedAt k port) (λ held. got) (λ free. tt)
+
+pub held_at : (v : SwitchView) (address : Pmac) → IsShaped v → AreGrantedAt v.k address.port (held_here v address)
+held_at v address shaped = held_granted_at v.k address.port (granted v address) (granted_at v address shaped)
+
 -- Delivery.
 
 to_ends : (v : SwitchView) (address : Pmac) (frame : List ℕ) (o : Option Grant) → IsShaped v → IsMade frame →
@@ -75,7 +84,7 @@ to_ends v address frame (Some grant) shaped made got =
 
 pub delivers_ends : (v : SwitchView) (frame : List ℕ) → IsShaped v → IsMade frame → IsEnding v (delivers v frame)
 delivers_ends v frame shaped made =
-    to_ends v (destination frame) frame (granted v (destination frame)) shaped made (granted_at v (destination frame) shaped)
+    to_ends v (destination frame) frame (held_here v (destination frame)) shaped made (held_at v (destination frame) shaped)
 
 -- Redirection.
 
@@ -133,7 +142,7 @@ pub goes_on_ends : (choose : Choice) (v : SwitchView) (frame : List ℕ) → IsC
 goes_on_ends choose v frame is_choice shaped made =
     let ports : List ℕ = candidates_by v (pmac_of (destination_of frame)) (Some FromHost) in
     cond_both (is_local v (destination frame)) (delivers v frame) (forwards choose v (Some FromHost) frame) (IsEndingOn v)
-    (λ yes. delivers_ends_on v (destination frame) frame (granted v (destination frame)) (delivers_ends v frame shaped made))
+    (λ yes. delivers_ends_on v (destination frame) frame (held_here v (destination frame)) (delivers_ends v frame shaped made))
     (λ other. leaves_ends_on v frame (choose ports frame) (forwards_ends choose v (Some FromHost) frame is_choice shaped made))
 
 redirected : (v : SwitchView) (frame : List ℕ) (trap : Trap) → IsShaped v →

@@ -9,11 +9,11 @@ use Rattle.pl_layouts.specs.Frames.{is_arp}
 use Rattle.pl_node.specs.declared.switch_records.Grant.{Grant}
 use Rattle.pl_node.specs.declared.trap.Trap.{Trap}
 use Rattle.pl_node.specs.SwitchViews.{SwitchView}
-use Rattle.pl_steps.specs.Steps.{SwitchStep, does}
+use Rattle.pl_steps.specs.Steps.{does}
 use Rattle.pl_switch_rule.specs.declared.came.Came.TheVariants.{FromHost}
 use Rattle.pl_switch_rule.specs.Delivering.{addresses, arrives_home, begins, comes_home, delivers, delivers_or_redirects, delivers_to, destination, goes_on, last_trap, newer_address, tells_newer, tells_sender, trap_for}
 use Rattle.pl_switch_rule.specs.Forwarding.{Choice, candidates_by, forwards, leaves_by}
-use Rattle.pl_switch_rule.specs.Granting.{granted, is_local}
+use Rattle.pl_switch_rule.specs.Granting.{held_here, is_local}
 
 pub leaves_view : (v : SwitchView) (frame : List ℕ) (o : Option ℕ) → (leaves_by v frame o).view ≡ v
 leaves_view v frame None = refl
@@ -26,11 +26,11 @@ delivers_view v address frame (Some grant) = refl
 pub goes_on_view : (choose : Choice) (v : SwitchView) (frame : List ℕ) → (goes_on choose v frame).view ≡ v
 goes_on_view choose v frame =
     cond_both (is_local v (destination frame)) (delivers v frame) (forwards choose v (Some FromHost) frame) (λ s. s.view ≡ v)
-    (λ here. delivers_view v (destination frame) frame (granted v (destination frame)))
+    (λ here. delivers_view v (destination frame) frame (held_here v (destination frame)))
     (λ other. leaves_view v frame (choose (candidates_by v (destination frame) (Some FromHost)) frame))
 
 pub home_view : (choose : Choice) (v : SwitchView) (frame : List ℕ) (o : Option Trap) → (delivers_or_redirects choose v frame o).view ≡ v
-home_view choose v frame None = delivers_view v (destination frame) frame (granted v (destination frame))
+home_view choose v frame None = delivers_view v (destination frame) frame (held_here v (destination frame))
 home_view choose v frame (Some trap) = goes_on_view choose v (with_destination frame (mac_of (last_trap (addresses v) v trap).new))
 
 pub begins_view : (choose : Choice) (v : SwitchView) (frame : List ℕ) → (begins choose v frame).view ≡ v

@@ -1,5 +1,6 @@
 pub mod StepParts
 pub mod Shapes
+pub mod Grants
 pub mod RowViews
 pub mod RowActs
 pub mod StepActs
@@ -17,6 +18,8 @@ pub mod GoingOut
 pub mod GoingHome
 pub mod ComingIn
 pub mod Managed
+pub mod AgingParts
+pub mod AgingViews
 pub mod AccountedSteps
 pub mod FirstDrops
 pub mod LearntSources
@@ -27,6 +30,5 @@ pub mod CausesHere
 pub mod CausesOfData
 pub mod CausesOfSteps
 pub mod Lengths
-pub mod Grants
 pub mod Candidates
 pub mod Exports

@@ -6,19 +6,19 @@ use Rattle.pl_frame.specs.declared.address.Ip4.{Ip4}
 use Rattle.pl_frame.specs.declared.address.Mac.{Mac}
 use Rattle.pl_pmac.specs.declared.pmac.Pmac.{Pmac}
 use Rattle.pl_switch_rule.specs.declared.came.Came.TheVariants.{FromHost}
-use Rattle.pl_node.specs.declared.messages.ToSwitch.{ToSwitch}
 use Rattle.pl_node.specs.declared.messages.ToSwitch.TheVariants.{Answer, Flood, Invalidate}
 use Rattle.pl_node.specs.declared.trap.Trap.{Trap}
 use Rattle.pl_switch_rule.specs.Delivering.{makes}
 use Rattle.pl_switch_rule.specs.Forwarding.{Choice}
 use Rattle.pl_layouts.specs.Frames.{arriving}
-use Rattle.pl_switch_rule.specs.Granting.{granted, is_granted}
+use Rattle.pl_switch_rule.specs.Granting.{held_here, is_granted}
 use Rattle.pl_switch_rule.specs.GroupForwarding.{forwards_group}
-use Rattle.pl_node.specs.Accounting.{IsFit, IsAccounted, IsMade, IsShaped, is_said, frame_state}
+use Rattle.pl_node.specs.Accounting.{IsFit, IsAccounted, IsMade, IsShaped, first_frame_state, is_said, frame_state}
 use Rattle.pl_node.specs.Accounting.FrameState.{Silent}
 use Rattle.pl_switch_rule.specs.Messages.{answer_frame, flood_frame, floods, forgets_members, hears_manager, invalidates, probe_frame, probes, probes_at, sets_trap}
 use Rattle.pl_steps.specs.Steps.{SwitchStep, does, rests, ◌▹◌}
 use Rattle.pl_switch_rule.specs.SwitchRule.{IsChoice}
+use Rattle.pl_node.specs.SwitchInputs.{SwitchInput}
 use Rattle.pl_node.specs.SwitchInputs.SwitchInput.{Says}
 use Rattle.pl_node.specs.AddressUses.{is_in_use}
 use Rattle.pl_node.specs.declared.switch_records.Grant.{Grant}
@@ -26,7 +26,7 @@ use Rattle.pl_node.specs.SwitchViews.{SwitchView}
 use Rattle.pl_switch_rule.proofs.AllSteps.{IsAccountedStep}
 use Rattle.pl_switch_rule.proofs.ControlSteps.{ended_is_said}
 use Rattle.pl_switch_rule.proofs.DataFrames.{answer_frame_made, arriving_made, flood_frame_made, probe_frame_made}
-use Rattle.pl_switch_rule.proofs.GoingHome.{AreGrantedAt, IsGrantedAt, granted_at, makes_making}
+use Rattle.pl_switch_rule.proofs.GoingHome.{AreGrantedAt, IsGrantedAt, held_at, makes_making}
 use Rattle.pl_switch_rule.proofs.GoingOut.{forwards_group_ends, sent_by}
 use Rattle.pl_switch_rule.proofs.MessageParts.{quiet_forgets_members, quiet_sets_trap}
 use Rattle.pl_switch_rule.proofs.Shapes.{same_self}
@@ -45,7 +45,7 @@ making_settled : (v : SwitchView) (s : SwitchStep) → IsMaking v s → IsSettle
 making_settled v s making =
     record { said = ended_is_said (frame_state Silent s.acts) making.silent; fit = making.further.fit; same = making.further.same }
 
-quiet_then_settled : (v : SwitchView) (s : SwitchStep) (next : SwitchView → SwitchStep) → IsQuiet v s →
+pub quiet_then_settled : (v : SwitchView) (s : SwitchStep) (next : SwitchView → SwitchStep) → IsQuiet v s →
     ((w : SwitchView) → IsSame v w → IsSettled w (next w)) → IsSettled v (s ▹ next)
 quiet_then_settled v s next a follows = let b = follows s.view a.same in record {
   said = ap is_said (frame_state_append Silent s.acts (next s.view).acts ∙ ap (λ x. frame_state x (next s.view).acts) a.silent) ∙ b.said;
@@ -58,9 +58,14 @@ if_settled : (v : SwitchView) (test : Bool) (a b : SwitchStep) → IsSettled v a
 if_settled v true a b first other = first
 if_settled v false a b first other = other
 
-settled_is_accounted : (v : SwitchView) (says : ToSwitch) (s : SwitchStep) → IsSettled v s → IsAccounted v (Says says) s.view s.acts
-settled_is_accounted v says s settled =
-    record { said = settled.said; fit = settled.fit; id = settled.same.id; k = settled.same.k; shaped = settled.same.shaped }
+pub settled_is_accounted : (v : SwitchView) (input : SwitchInput) (s : SwitchStep) → first_frame_state input ≡ Silent → IsSettled v s → IsAccounted v input s.view s.acts
+settled_is_accounted v input s silent settled = record {
+  said = ap (λ start. is_said (frame_state start s.acts)) silent ∙ settled.said;
+  fit = settled.fit;
+  id = settled.same.id;
+  k = settled.same.k;
+  shaped = settled.same.shaped;
+}
 
 pub floods_making : (v : SwitchView) (frame : List ℕ) → IsShaped v → IsMade frame → IsMaking v (floods v frame)
 floods_making v frame shaped made =
@@ -100,7 +105,7 @@ pub accounted_answer : (choose : Choice) (v : SwitchView) (asker : Pmac) (asker_
     IsAccountedStep choose v (Says (Answer asker asker_ip ip pmac))
 accounted_answer choose v asker asker_ip ip pmac is_choice shaped =
     let frame = answer_frame asker asker_ip ip pmac in
-    settled_is_accounted v (Answer asker asker_ip ip pmac) (hears_manager choose v (Answer asker asker_ip ip pmac))
+    settled_is_accounted v (Says (Answer asker asker_ip ip pmac)) (hears_manager choose v (Answer asker asker_ip ip pmac)) refl
     (if_settled v (is_granted v asker) (makes choose frame v) (rests v)
     (making_settled v (makes choose frame v) (makes_making choose frame v is_choice shaped (answer_frame_made asker asker_ip ip pmac)))
     (rests_settled v shaped))
@@ -110,7 +115,7 @@ pub accounted_flood : (choose : Choice) (v : SwitchView) (asker : Pmac) (asker_i
     IsAccountedStep choose v (Says (Flood asker asker_ip ip))
 accounted_flood choose v asker asker_ip ip shaped =
     let frame = flood_frame asker asker_ip ip in
-    settled_is_accounted v (Flood asker asker_ip ip) (hears_manager choose v (Flood asker asker_ip ip))
+    settled_is_accounted v (Says (Flood asker asker_ip ip)) (hears_manager choose v (Flood asker asker_ip ip)) refl
     (if_settled v (is_granted v asker) (floods v frame) (rests v)
     (making_settled v (floods v frame) (floods_making v frame shaped (flood_frame_made asker asker_ip ip))) (rests_settled v shaped))
 
@@ -118,5 +123,5 @@ accounted_flood choose v asker asker_ip ip shaped =
 pub accounted_invalidate : (choose : Choice) (v : SwitchView) (old new : Pmac) (number : ℕ) (ip : Option Ip4) → IsShaped v →
     IsAccountedStep choose v (Says (Invalidate old new number ip))
 accounted_invalidate choose v old new number ip shaped =
-    settled_is_accounted v (Invalidate old new number ip) (hears_manager choose v (Invalidate old new number ip))
-    (invalidates_settled v old (record { new = new; number = number; ip = ip }) (granted v old) shaped (granted_at v old shaped))
+    settled_is_accounted v (Says (Invalidate old new number ip)) (hears_manager choose v (Invalidate old new number ip)) refl
+    (invalidates_settled v old (record { new = new; number = number; ip = ip }) (held_here v old) shaped (held_at v old shaped))

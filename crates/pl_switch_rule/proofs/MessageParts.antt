@@ -1,20 +1,19 @@
 -- Messages of the manager, and of hosts, that let no frame out are quiet.
-use Rattle.std.proofs.Common.{not, ℕ, false, List, [], Option, Some, fold, refl}
+use Rattle.std.proofs.Common.{not, nat_lt, ℕ, List, [], None, Option, Some, fold, refl}
 use Rattle.std.specs.List.{filter}
 use Rattle.pl_frame.specs.declared.address.Mac.{Mac}
 use Rattle.pl_frame.specs.declared.address.SwitchId.{SwitchId}
 use Rattle.pl_frame.specs.Ethernet.{source_of}
 use Rattle.pl_arp.specs.declared.packet.Arp.{Arp}
 use Rattle.pl_pmac.specs.declared.pmac.Pmac.{Pmac}
-use Rattle.pl_node.specs.declared.messages.ToManager.TheVariants.{Members}
 use Rattle.pl_node.specs.declared.messages.TreePart.{TreePart}
 use Rattle.pl_node.specs.declared.trap.Trap.{Trap}
 use Rattle.pl_switch_rule.specs.Intake.{changes_member, groups_told, hears_members, is_member, members_become, packet_acts, with_members}
 use Rattle.pl_node.specs.Accounting.{HasMac, IsShaped}
 use Rattle.pl_switch_rule.specs.Levels.{changes_to, with_pod}
 use Rattle.pl_layouts.specs.Memberships.{changes_in}
-use Rattle.pl_switch_rule.specs.Messages.{forgets_members, hears_pod, sets_trap, takes_pod, with_part}
-use Rattle.pl_node.specs.Traps.{newer_trap}
+use Rattle.pl_switch_rule.specs.Messages.{forgets_members, hears_pod, sets_trap, sets_trap_over, takes_pod, with_part, with_trap}
+use Rattle.pl_switch_rule.specs.Granting.{behind, without}
 use Rattle.pl_steps.specs.Steps.{does, rests}
 use Rattle.pl_node.specs.AddressUses.{standing_trap}
 use Rattle.pl_node.specs.declared.address_use.AddressUse.TheVariants.{Trapped}
@@ -24,8 +23,8 @@ use Rattle.pl_node.specs.SwitchViews.{SwitchView}
 use Rattle.pl_switch_rule.proofs.StepParts.{IsQuiet, IsSame}
 use Rattle.pl_switch_rule.proofs.Shapes.{same_but, same_self, same_shape}
 use Rattle.pl_switch_rule.proofs.RowActs.{arp_acts, groups_acts}
-use Rattle.pl_switch_rule.proofs.QuietActs.{AreQuiet, IsQuietAct, quiet_either, quiet_rests, quiet_self, quiet_step}
-use Rattle.pl_switch_rule.proofs.GrantingParts.{same_with_grant}
+use Rattle.pl_switch_rule.proofs.QuietActs.{AreQuiet, IsQuietAct, quiet_either, quiet_rests, quiet_self, quiet_step, same_either}
+use Rattle.pl_switch_rule.proofs.GrantingParts.{same_in_order}
 use Rattle.pl_switch_rule.proofs.LevelParts.{quiet_changes_to}
 use Rattle.pl_switch_rule.proofs.PositionParts.{same_with_place}
 
@@ -36,10 +35,10 @@ quiet_hears_pod v pod s =
     (λ h. quiet_changes_to v new (same_with_place v (record v.place { pod = Some pod }) s)) (λ h. quiet_self v s)
 
 pub same_with_avoid : (v : SwitchView) (list : List (SwitchId × ℕ × ℕ)) → IsShaped v → IsSame v (record v { avoid = list })
-same_with_avoid v list s = same_shape v (record v { avoid = list }) s refl refl refl refl refl refl s.granted s.sources
+same_with_avoid v list s = same_shape v (record v { avoid = list }) s refl refl refl refl refl refl refl s.granted s.free s.sources
 
 pub same_with_parts : (v : SwitchView) (parts : List (ℕ × TreePart)) → IsShaped v → IsSame v (record v { parts = parts })
-same_with_parts v parts s = same_shape v (record v { parts = parts }) s refl refl refl refl refl refl s.granted s.sources
+same_with_parts v parts s = same_shape v (record v { parts = parts }) s refl refl refl refl refl refl refl s.granted s.free s.sources
 
 pub quiet_with_avoid : (v : SwitchView) (list : List (SwitchId × ℕ × ℕ)) → IsShaped v → IsQuiet v (rests (record v { avoid = list }))
 quiet_with_avoid v list s = quiet_rests v (record v { avoid = list }) (same_with_avoid v list s)
@@ -73,8 +72,16 @@ quiet_packet_acts v port frame arp s = quiet_step v v (packet_acts v port frame 
 
 -- A trap.
 
+pub same_with_trap : (v : SwitchView) (old : Pmac) (grant : Grant) (trap : Trap) → IsShaped v → HasMac grant → IsSame v (with_trap v old grant trap)
+same_with_trap v old grant trap s mac = same_in_order v old (record grant { held = Trapped trap 0 }) (without old v.used) (behind old v.trapped) s mac
+
+same_sets_over : (v : SwitchView) (old : Pmac) (grant : Grant) (trap : Trap) (o : Option Trap) → IsShaped v → HasMac grant → IsSame v (sets_trap_over o v old grant trap)
+same_sets_over v old grant trap None s mac = same_with_trap v old grant trap s mac
+same_sets_over v old grant trap (Some standing) s mac =
+    same_either v (nat_lt trap.number standing.number) v (with_trap v old grant trap) (same_self v s) (same_with_trap v old grant trap s mac)
+
 pub same_sets_trap : (v : SwitchView) (old : Pmac) (grant : Grant) (trap : Trap) → IsShaped v → HasMac grant → IsSame v (sets_trap v old grant trap)
-same_sets_trap v old grant trap s mac = same_with_grant v old (record grant { held = Trapped (newer_trap trap (standing_trap grant.held)) 0 }) s mac
+same_sets_trap v old grant trap s mac = same_sets_over v old grant trap (standing_trap grant.held) s mac
 
 pub quiet_sets_trap : (v : SwitchView) (old : Pmac) (grant : Grant) (trap : Trap) → IsShaped v → HasMac grant → IsQuiet v (does (sets_trap v old grant trap) [])
 quiet_sets_trap v old grant trap s mac = quiet_rests v (sets_trap v old grant trap) (same_sets_trap v old grant trap s mac)

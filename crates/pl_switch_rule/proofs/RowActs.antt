@@ -23,6 +23,8 @@ use Rattle.pl_node.specs.declared.acts.Act.{Act}
 use Rattle.pl_node.specs.declared.acts.Act.TheVariants as act
 use Rattle.pl_node.specs.declared.messages.ToManager.TheVariants as tell
 use Rattle.pl_node.specs.AddressUses.{is_in_use}
+use Rattle.pl_node.specs.declared.address_use.AddressUse.{AddressUse}
+use Rattle.pl_node.specs.declared.address_use.AddressUse.TheVariants.{Free, InUse, Resting, Trapped}
 use Rattle.pl_node.specs.declared.switch_records.Grant.{Grant}
 use Rattle.pl_node.specs.declared.switch_records.Member.{Member}
 use Rattle.pl_node.specs.declared.switch_records.Source.{Source}
@@ -31,20 +33,22 @@ use Rattle.pl_node.specs.Announcements.{announcement}
 use Rattle.pl_node.specs.PortRecords.{id_at, is_usable, place_at, ports_of_switch, ports_where}
 use Rattle.pl_node.specs.SwitchViews.{SwitchView}
 use Rattle.pl_steps.specs.Steps.{SwitchStep, does, rests, ◌▹◌}
+use Rattle.pl_switch_rule.specs.Aging.{ages, ages_out, ages_out_of, all_age_out, probe_of, probes_idle, to_probe, to_rest, with_older}
 use Rattle.pl_switch_rule.specs.Announcing.{announcements, announces_at, proposal, proposes_at}
 use Rattle.pl_switch_rule.specs.declared.came.Came.{Came}
 use Rattle.pl_switch_rule.specs.declared.came.Came.TheVariants.{FromHost}
 use Rattle.pl_switch_rule.specs.declared.came.Way.{Way}
 use Rattle.pl_switch_rule.specs.Delivering.{addresses, arrives_home, begins, comes_home, delivers, delivers_or_redirects, delivers_to, destination, goes_on, if_newer, last_trap, makes, newer_address, redirects, redirects_on, tells_newer, tells_sender, trap_for}
 use Rattle.pl_switch_rule.specs.Forwarding.{Choice, came_by, candidates_by, forwards, leaves_by}
-use Rattle.pl_switch_rule.specs.Granting.{address_at_port, forgets, grant_number, granted, grants_at, grants_next, grants_or_learns, grants_remembered, grants_source, in_use, is_local, is_port_spent, learns_ip, learns_source, remembered_at, remembers, sender_ip, with_grant}
+use Rattle.pl_switch_rule.specs.Granting.{address_at_port, forgets, freed_at, grant_number, granted, grants_at, grants_next, grants_or_learns, grants_remembered, grants_source, held_here, in_use, is_local, learns_ip, learns_source, next_vmid, remembered_at, remembers, sender_ip, uses}
 use Rattle.pl_switch_rule.specs.GroupForwarding.{destination_group, forwards_group, group_ports, no_way, passes_or_drops, way_of}
 use Rattle.pl_switch_rule.specs.Intake.{group_told, groups_of, groups_told, has_member_of, hears_members, packet_acts, query, sends_in, source_pmac, takes, takes_in_or_spent, with_pmac}
 use Rattle.pl_switch_rule.specs.Levels.{changes_to, has_become_placed, settles_in}
-use Rattle.pl_switch_rule.specs.Messages.{floods, probe_frame, probes, probes_at}
+use Rattle.pl_switch_rule.specs.Messages.{floods, frees, frees_at, probe_acts, probe_frame, probes, probes_at}
 use Rattle.pl_switch_rule.specs.Positions.{answers_proposal, frees_others, half, hears_proposal}
 use Rattle.pl_switch_rule.specs.SwitchRule.{comes_from_switch}
 use Rattle.pl_switch_rule.specs.Telling.{changes_told, link_to, link_told, place_told, pod_wanted}
+use Rattle.pl_switch_rule.proofs.Grants.{held_parts}
 use Rattle.pl_switch_rule.proofs.RowViews.{home_stays, taken_in}
 
 -- The kinds of acts.
@@ -145,15 +149,17 @@ module _ (P : Act → Type 0) where
     learns_ip_acts v address None ip = tt
     learns_ip_acts v address (Some grant) None = tt
     learns_ip_acts v address (Some grant) (Some ip) =
-        cond_both (is_ip grant.ip ip) (rests v)
-        (record { view = with_grant v address (record grant { ip = Some ip }); acts = act.Tell (tell.Learned address grant.amac (Some ip)) ∷ [] })
+        cond_both (is_ip grant.ip ip) (rests (uses v address grant))
+        (record { view = uses v address (record grant { ip = Some ip }); acts = act.Tell (tell.Learned address grant.amac (Some ip)) ∷ [] })
         Each (λ same. tt) (λ new. (may.learnt address grant.amac (Some ip), tt))
+
+    next_acts : (v : SwitchView) (port : ℕ) (amac : Mac) (ip : Option Ip4) (vmid : Option ℕ) → Each (grants_next v port amac ip vmid)
+    next_acts v port amac ip None = tt
+    next_acts v port amac ip (Some vmid) = (may.granted (address_at_port v port vmid) amac, (may.learnt (address_at_port v port vmid) amac ip, tt))
 
     grants_acts : (v : SwitchView) (port : ℕ) (amac : Mac) (ip : Option Ip4) (vmid : Option ℕ) → Each (grants_or_learns v port amac ip vmid)
     grants_acts v port amac ip (Some vmid) = learns_ip_acts v (address_at_port v port vmid) (grant_number (grants_at v port) vmid) ip
-    grants_acts v port amac ip None =
-        cond_both (is_port_spent v port) (rests v) (grants_next v port amac ip) Each (λ spent. tt)
-        (λ free. (may.granted _ amac, (may.learnt _ amac ip, tt)))
+    grants_acts v port amac ip None = next_acts v port amac ip (next_vmid (freed_at v port) (grants_at v port))
 
     source_acts : (v : SwitchView) (port : ℕ) (source : Option Source) → Each (grants_source v port source)
     source_acts v port None = tt
@@ -274,7 +280,8 @@ module _ (P : Act → Type 0) where
 
       delivery_acts : (frame : List ℕ) → Each (delivers v frame)
       delivery_acts frame =
-          delivers_acts v (destination frame) frame (granted v (destination frame)) (λ grant is. ways.delivered (destination frame) grant is)
+          delivers_acts v (destination frame) frame (held_here v (destination frame))
+          (λ grant is. ways.delivered (destination frame) grant (held_parts v (destination frame) grant is))
 
       goes_on_acts : (frame : List ℕ) → Each (goes_on choose v frame)
       goes_on_acts frame =
@@ -343,11 +350,62 @@ module _ (P : Act → Type 0) where
       pub makes_acts : (frame : List ℕ) → P (act.Make frame) → Each (makes choose frame v)
       makes_acts frame made = (made, begins_acts frame)
 
-    probes_at_acts : (old : Pmac) (amac : Mac) (ip : Option Ip4) (v : SwitchView) → W old.port → ((i : Ip4) → P (act.Make (probe_frame old i))) →
-        Each (probes_at old amac ip v)
-    probes_at_acts old amac None v way made = tt
-    probes_at_acts old amac (Some ip) v way made = (made ip, (may.passed old.port (arriving (probe_frame old ip) None (Some amac)) way, tt))
+  -- Hosts are probed.
+
+  module _ (W : ℕ → Type 0) (passed : (port : ℕ) (frame : List ℕ) → W port → P (act.Pass port frame)) where
+    asks_acts : (old : Pmac) (amac : Mac) (ip : Option Ip4) → W old.port → ((i : Ip4) → P (act.Make (probe_frame old i))) → AllByRecursion P (probe_acts old amac ip)
+    asks_acts old amac None way made = tt
+    asks_acts old amac (Some ip) way made = (made ip, (passed old.port (arriving (probe_frame old ip) None (Some amac)) way, tt))
 
     pub probes_acts : (old : Pmac) (grant : Grant) (v : SwitchView) → W old.port → ((i : Ip4) → P (act.Make (probe_frame old i))) → Each (probes old grant v)
     probes_acts old grant v way made =
-        cond_both (is_in_use grant.held) (probes_at old grant.amac grant.ip v) (rests v) Each (λ used. probes_at_acts old grant.amac grant.ip v way made) (λ unused. tt)
+        cond_both (is_in_use grant.held) (probes_at old grant.amac grant.ip v) (rests v) Each (λ used. asks_acts old grant.amac grant.ip way made) (λ unused. tt)
+
+    -- at a tick
+    probed_acts : (x : Pmac) (o : Option Grant) → ((grant : Grant) → o ≡ Some grant → W x.port) → ((i : Ip4) → P (act.Make (probe_frame x i))) →
+        AllByRecursion P (probe_of x o)
+    probed_acts x None way made = tt
+    probed_acts x (Some grant) way made = asks_acts x grant.amac grant.ip (way grant refl) made
+
+    pub idle_acts : (v : SwitchView) → ((x : Pmac) (grant : Grant) → granted v x ≡ Some grant → W x.port) → ((x : Pmac) (i : Ip4) → P (act.Make (probe_frame x i))) →
+        AllByRecursion P (probes_idle v)
+    idle_acts v way made = all_flat P (λ x. probe_of x (granted v x)) (to_probe v) (λ x. probed_acts x (granted v x) (way x) (made x))
+
+  -- Addresses rest, and the manager is told.
+
+  module _ (aged : (x : Pmac) (number : ℕ) → P (act.Tell (tell.Aged x number))) where
+    ages_out_of_acts : (v : SwitchView) (x : Pmac) (grant : Grant) (held : AddressUse) → Each (ages_out_of v x grant held)
+    ages_out_of_acts v x grant (InUse idle) = (aged x 0, tt)
+    ages_out_of_acts v x grant (Trapped trap age) = (aged x trap.number, tt)
+    ages_out_of_acts v x grant (Resting number) = tt
+    ages_out_of_acts v x grant Free = tt
+
+    ages_out_acts : (v : SwitchView) (x : Pmac) (o : Option Grant) → Each (ages_out x o v)
+    ages_out_acts v x None = tt
+    ages_out_acts v x (Some grant) = ages_out_of_acts v x grant grant.held
+
+    pub all_age_out_acts : (xs : List Pmac) (v : SwitchView) → Each (all_age_out xs v)
+    unfolding all_age_out
+    all_age_out_acts [] v = tt
+    all_age_out_acts (x ∷ xs) v =
+        let first : SwitchStep = ages_out x (granted v x) v in
+        all_append P first.acts (all_age_out xs first.view).acts (ages_out_acts v x (granted v x)) (all_age_out_acts xs first.view)
+
+    -- and what a tick makes of them
+    pub ages_acts : (v : SwitchView) → AllByRecursion P (probes_idle (with_older v)) → Each (ages v)
+    ages_acts v probed =
+        let older = with_older v in
+        all_append P (probes_idle older) (all_age_out (to_rest older) older).acts probed (all_age_out_acts (to_rest older) older)
+
+  -- An address is freed.
+
+  module _ (freed : (x : Pmac) → P (act.Free x)) where
+    frees_at_acts : (v : SwitchView) (x : Pmac) (grant : Grant) (held : AddressUse) → Each (frees_at v x grant held)
+    frees_at_acts v x grant (InUse idle) = tt
+    frees_at_acts v x grant (Trapped trap age) = tt
+    frees_at_acts v x grant (Resting number) = (freed x, tt)
+    frees_at_acts v x grant Free = tt
+
+    pub frees_acts : (v : SwitchView) (x : Pmac) (o : Option Grant) → Each (frees v x o)
+    frees_acts v x None = tt
+    frees_acts v x (Some grant) = frees_at_acts v x grant grant.held

@@ -17,7 +17,9 @@ use Rattle.pl_layouts.specs.Memberships.{is_group, membership_in}
 use Rattle.pl_layouts.specs.Placement.{is_known, is_placed}
 use Rattle.pl_node.specs.declared.acts.Act.TheVariants.{Drop, Tell}
 use Rattle.pl_node.specs.declared.messages.ToManager.TheVariants.{Learned}
-use Rattle.pl_node.specs.AddressUses.{is_in_use}
+use Rattle.pl_node.specs.AddressUses.{is_in_use, standing_trap}
+use Rattle.pl_node.specs.declared.address_use.AddressUse.{AddressUse}
+use Rattle.pl_node.specs.declared.address_use.AddressUse.TheVariants.{Free, InUse, Resting, Trapped}
 use Rattle.pl_node.specs.declared.switch_records.Grant.{Grant}
 use Rattle.pl_node.specs.declared.switch_records.Member.{Member}
 use Rattle.pl_node.specs.declared.switch_records.Source.{Source}
@@ -30,11 +32,12 @@ use Rattle.pl_switch_rule.specs.declared.came.Came.{Came}
 use Rattle.pl_switch_rule.specs.declared.came.Came.TheVariants.{FromHost}
 use Rattle.pl_switch_rule.specs.Delivering.{addresses, arrives_home, begins, comes_home, delivers, delivers_or_redirects, delivers_to, destination, goes_on, last_trap, makes, newer_address, tells_newer, tells_sender, trap_for}
 use Rattle.pl_switch_rule.specs.Forwarding.{Choice, came_by, candidates_by, forwards, leaves_by}
-use Rattle.pl_switch_rule.specs.Granting.{address_at_port, forgets, grant_number, granted, grants_at, grants_next, grants_or_learns, grants_remembered, grants_source, has_no_address, in_use, is_local, is_port_spent, learns_ip, learns_source, remembered_at, remembers, sender_ip, with_grant}
+use Rattle.pl_switch_rule.specs.Aging.{ages, ages_out, ages_out_of, all_age_out, to_rest, with_older}
+use Rattle.pl_switch_rule.specs.Granting.{address_at_port, forgets, freed_at, grant_number, granted, grants_at, grants_next, grants_or_learns, grants_remembered, grants_source, has_no_address, held_here, in_use, is_local, learns_ip, learns_source, next_vmid, remembered_at, remembers, sender_ip, uses}
 use Rattle.pl_switch_rule.specs.GroupForwarding.{forwards_group}
 use Rattle.pl_switch_rule.specs.Intake.{hears_members, is_for_switch, packet_acts, sends_in, takes, takes_in, takes_in_or_spent, with_pmac}
 use Rattle.pl_switch_rule.specs.Levels.{becomes_edge, changes_to, finds_host, has_become_placed, settles_in}
-use Rattle.pl_switch_rule.specs.Messages.{floods, forgets_members, invalidates, probes, probes_at, sets_trap}
+use Rattle.pl_switch_rule.specs.Messages.{floods, forgets_members, frees, frees_at, invalidates, probes, probes_at, sets_trap, sets_trap_over, with_trap}
 use Rattle.pl_switch_rule.specs.Positions.{answers_proposal, frees_others, half, hears_proposal, holds_for, is_free_for}
 use Rattle.pl_switch_rule.specs.SwitchRule.{comes_from_switch}
 
@@ -57,10 +60,10 @@ delivers_stays v address frame (Some grant) = refl
 goes_on_stays : (choose : Choice) (v : SwitchView) (frame : List ℕ) → Stays v (goes_on choose v frame)
 goes_on_stays choose v frame =
     cond_both (is_local v (destination frame)) (delivers v frame) (forwards choose v (Some FromHost) frame) (Stays v)
-    (λ here. delivers_stays v (destination frame) frame (granted v (destination frame))) (λ other. forwards_stays choose v (Some FromHost) frame)
+    (λ here. delivers_stays v (destination frame) frame (held_here v (destination frame))) (λ other. forwards_stays choose v (Some FromHost) frame)
 
 pub home_stays : (choose : Choice) (v : SwitchView) (frame : List ℕ) (o : Option Trap) → Stays v (delivers_or_redirects choose v frame o)
-home_stays choose v frame None = delivers_stays v (destination frame) frame (granted v (destination frame))
+home_stays choose v frame None = delivers_stays v (destination frame) frame (held_here v (destination frame))
 home_stays choose v frame (Some trap) = goes_on_stays choose v (with_destination frame (mac_of (last_trap (addresses v) v trap).new))
 
 pub begins_stays : (choose : Choice) (v : SwitchView) (frame : List ℕ) → Stays v (begins choose v frame)
@@ -106,13 +109,9 @@ answers_stay choose v test frame = cond_both test (makes choose frame v) (rests 
 pub floods_stay : (v : SwitchView) (test : Bool) (frame : List ℕ) → Stays v (if test then floods v frame else rests v)
 floods_stay v test frame = cond_both test (floods v frame) (rests v) (Stays v) (λ known. refl) (λ unknown. refl)
 
-probes_at_stays : (old : Pmac) (amac : Mac) (ip : Option Ip4) (v : SwitchView) → Stays v (probes_at old amac ip v)
-probes_at_stays old amac None v = refl
-probes_at_stays old amac (Some ip) v = refl
-
 pub probes_stay : (old : Pmac) (grant : Grant) (v : SwitchView) → Stays v (probes old grant v)
 probes_stay old grant v =
-    cond_both (is_in_use grant.held) (probes_at old grant.amac grant.ip v) (rests v) (Stays v) (λ used. probes_at_stays old grant.amac grant.ip v) (λ unused. refl)
+    cond_both (is_in_use grant.held) (probes_at old grant.amac grant.ip v) (rests v) (Stays v) (λ used. refl) (λ unused. refl)
 
 -- A frame that is taken in goes on, or ends here, and leaves the view; or it changes what is known of members.
 pub taken_in : (choose : Choice) (port : ℕ) (frame : List ℕ) (v : SwitchView) (S : SwitchStep → Type 0) → ((cause : _) → S (does v (Drop cause ∷ []))) →
@@ -131,23 +130,27 @@ taken_in choose port frame v S dropped packet members sent =
 -- What is known of hosts: addresses and sources, and members.
 
 abbrev pub LearnsSources : SwitchView → SwitchView → Type 0
-LearnsSources v w = w ≡ record v { grants = w.grants; remembered = w.remembered }
+LearnsSources v w = w ≡ record v { grants = w.grants; used = w.used; freed = w.freed; remembered = w.remembered }
 
 sources_then : (u v w : SwitchView) → LearnsSources u v → LearnsSources v w → LearnsSources u w
 sources_then u v w first next =
-    let learnt : SwitchView → SwitchView = λ x. record x { grants = w.grants; remembered = w.remembered } in next ∙ ap learnt first
+    let learnt : SwitchView → SwitchView = λ x. record x { grants = w.grants; used = w.used; freed = w.freed; remembered = w.remembered } in next ∙ ap learnt first
 
 abbrev pub LearnsHosts : SwitchView → SwitchView → Type 0
-LearnsHosts v w = w ≡ record v { grants = w.grants; remembered = w.remembered; members = w.members }
+LearnsHosts v w =
+    w ≡ record v { grants = w.grants; used = w.used; trapped = w.trapped; freed = w.freed; remembered = w.remembered; members = w.members }
 
-hosts_then : (u v w : SwitchView) → LearnsHosts u v → LearnsHosts v w → LearnsHosts u w
+pub hosts_then : (u v w : SwitchView) → LearnsHosts u v → LearnsHosts v w → LearnsHosts u w
 hosts_then u v w first next =
-    let learnt : SwitchView → SwitchView = λ x. record x { grants = w.grants; remembered = w.remembered; members = w.members } in next ∙ ap learnt first
+    let learnt : SwitchView → SwitchView =
+    λ x. record x { grants = w.grants; used = w.used; trapped = w.trapped; freed = w.freed; remembered = w.remembered; members = w.members } in next ∙ ap learnt first
 
 pub sources_are_of_hosts : (v w : SwitchView) → LearnsSources v w → LearnsHosts v w
 sources_are_of_hosts v w learns =
-    let with_members : List Member → SwitchView = λ members. record v { grants = w.grants; remembered = w.remembered; members = members } in
-    learns ∙ ap with_members (sym (ap (λ (x : SwitchView). x.members) learns))
+    let others : List Pmac → List Member → SwitchView =
+    λ trapped members. record v { grants = w.grants; used = w.used; trapped = trapped; freed = w.freed; remembered = w.remembered; members = members } in
+    learns ∙ ap (λ (trapped : List Pmac). others trapped v.members) (sym (ap (λ (x : SwitchView). x.trapped) learns))
+    ∙ ap (λ (members : List Member). others w.trapped members) (sym (ap (λ (x : SwitchView). x.members) learns))
 
 pub stays_learns : (v w : SwitchView) → w ≡ v → LearnsHosts v w
 stays_learns v w stays = subst (LearnsHosts v) (sym stays) refl
@@ -159,16 +162,20 @@ learns_ip_learns : (v : SwitchView) (address : Pmac) (grant : Option Grant) (ip 
 learns_ip_learns v address None ip = refl
 learns_ip_learns v address (Some grant) None = refl
 learns_ip_learns v address (Some grant) (Some ip) =
-    cond_both (is_ip grant.ip ip) (rests v) (record {
-      view = with_grant v address (record grant { ip = Some ip });
+    cond_both (is_ip grant.ip ip) (rests (uses v address grant)) (record {
+      view = uses v address (record grant { ip = Some ip });
       acts = Tell
           (Learned address grant.amac (Some ip)) ∷ [];
     })
     (Learns v) (λ same. refl) (λ new. refl)
 
+next_learns : (v : SwitchView) (port : ℕ) (amac : Mac) (ip : Option Ip4) (vmid : Option ℕ) → Learns v (grants_next v port amac ip vmid)
+next_learns v port amac ip None = refl
+next_learns v port amac ip (Some vmid) = refl
+
 grants_learn : (v : SwitchView) (port : ℕ) (amac : Mac) (ip : Option Ip4) (vmid : Option ℕ) → Learns v (grants_or_learns v port amac ip vmid)
 grants_learn v port amac ip (Some vmid) = learns_ip_learns v (address_at_port v port vmid) (grant_number (grants_at v port) vmid) ip
-grants_learn v port amac ip None = cond_both (is_port_spent v port) (rests v) (grants_next v port amac ip) (Learns v) (λ spent. refl) (λ free. refl)
+grants_learn v port amac ip None = next_learns v port amac ip (next_vmid (freed_at v port) (grants_at v port))
 
 grants_source_learns : (v : SwitchView) (port : ℕ) (source : Option Source) → Learns v (grants_source v port source)
 grants_source_learns v port None = refl
@@ -203,12 +210,56 @@ taken_in_learns choose port frame v =
     taken_in choose port frame v (λ step. LearnsHosts v step.view) (λ cause. refl) refl refl
     (stays_learns v _ (sends_in_stays choose (with_pmac v port frame) v))
 
+trap_learns : (v : SwitchView) (old : Pmac) (grant : Grant) (trap : Trap) (standing : Option Trap) → LearnsHosts v (sets_trap_over standing v old grant trap)
+trap_learns v old grant trap None = refl
+trap_learns v old grant trap (Some standing) =
+    cond_both (nat_lt trap.number standing.number) v (with_trap v old grant trap) (LearnsHosts v) (λ smaller. refl) (λ larger. refl)
+
+pub trap_keeps_members : (v : SwitchView) (old : Pmac) (grant : Grant) (trap : Trap) (standing : Option Trap) → (sets_trap_over standing v old grant trap).members ≡ v.members
+trap_keeps_members v old grant trap None = refl
+trap_keeps_members v old grant trap (Some standing) =
+    cond_both (nat_lt trap.number standing.number) v (with_trap v old grant trap) (λ (w : SwitchView). w.members ≡ v.members) (λ smaller. refl) (λ larger. refl)
+
 pub invalidates_learns : (v : SwitchView) (old : Pmac) (trap : Trap) (grant : Option Grant) → LearnsHosts v (invalidates v old trap grant).view
 invalidates_learns v old trap None = refl
 invalidates_learns v old trap (Some grant) =
     let forgot : SwitchStep = does (sets_trap v old grant trap) [] ▹ forgets_members old.port grant.amac in
-    hosts_then v forgot.view (forgot ▹ probes old grant).view refl
+    hosts_then v forgot.view (forgot ▹ probes old grant).view
+    (hosts_then v (sets_trap v old grant trap) forgot.view (trap_learns v old grant trap (standing_trap grant.held)) refl)
     (stays_learns forgot.view (probes old grant forgot.view).view (probes_stay old grant forgot.view))
+
+-- Addresses are freed, and age.
+
+frees_at_learns : (v : SwitchView) (address : Pmac) (grant : Grant) (held : AddressUse) → Learns v (frees_at v address grant held)
+frees_at_learns v address grant (InUse idle) = refl
+frees_at_learns v address grant (Trapped trap age) = refl
+frees_at_learns v address grant (Resting number) = refl
+frees_at_learns v address grant Free = refl
+
+pub frees_learn : (v : SwitchView) (address : Pmac) (grant : Option Grant) → Learns v (frees v address grant)
+frees_learn v address None = refl
+frees_learn v address (Some grant) = frees_at_learns v address grant grant.held
+
+ages_out_of_learns : (v : SwitchView) (address : Pmac) (grant : Grant) (held : AddressUse) → LearnsHosts v (ages_out_of v address grant held).view
+ages_out_of_learns v address grant (InUse idle) = refl
+ages_out_of_learns v address grant (Trapped trap age) = refl
+ages_out_of_learns v address grant (Resting number) = refl
+ages_out_of_learns v address grant Free = refl
+
+ages_out_learns : (v : SwitchView) (address : Pmac) (grant : Option Grant) → LearnsHosts v (ages_out address grant v).view
+ages_out_learns v address None = refl
+ages_out_learns v address (Some grant) = ages_out_of_learns v address grant grant.held
+
+all_age_out_learns : (addresses : List Pmac) (v : SwitchView) → LearnsHosts v (all_age_out addresses v).view
+unfolding all_age_out
+all_age_out_learns [] v = refl
+all_age_out_learns (address ∷ addresses) v =
+    let first : SwitchStep = ages_out address (granted v address) v in
+    hosts_then v first.view (first ▹ all_age_out addresses).view (ages_out_learns v address (granted v address)) (all_age_out_learns addresses first.view)
+
+pub ages_learn : (v : SwitchView) → LearnsHosts v (ages v).view
+ages_learn v =
+    let o = with_older v in hosts_then v o (ages v).view refl (all_age_out_learns (to_rest o) o)
 
 -- A host is found at a port, and what its frame shows is learnt.
 

@@ -16,7 +16,8 @@ use Rattle.pl_node.specs.declared.acts.Act.{Act}
 use Rattle.pl_node.specs.declared.acts.Act.TheVariants as act
 use Rattle.pl_node.specs.declared.messages.ToManager.TheVariants as tell
 use Rattle.pl_node.specs.declared.messages.ToSwitch.{ToSwitch}
-use Rattle.pl_node.specs.declared.messages.ToSwitch.TheVariants.{Answer, Avoid, Flood, Invalidate, Pod, Tree}
+use Rattle.pl_node.specs.declared.messages.ToSwitch.TheVariants.{Answer, Avoid, Flood, Invalidate, Pod, Release, Tree}
+use Rattle.pl_node.specs.AddressUses.{standing_trap}
 use Rattle.pl_node.specs.declared.switch_records.Grant.{Grant}
 use Rattle.pl_node.specs.declared.switch_records.Member.{Member}
 use Rattle.pl_node.specs.declared.trap.Trap.{Trap}
@@ -25,24 +26,27 @@ use Rattle.pl_node.specs.SwitchInputs.{SwitchInput}
 use Rattle.pl_node.specs.SwitchInputs.SwitchInput.{Comes, Says, Tick}
 use Rattle.pl_node.specs.SwitchViews.{SwitchView}
 use Rattle.pl_steps.specs.Steps.{SwitchStep, does, rests, ◌▹◌}
-use Rattle.pl_switch_rule.specs.Announcing.{announcements, ticks, with_aged_ports}
+use Rattle.pl_switch_rule.specs.Aging.{ages, with_older}
+use Rattle.pl_switch_rule.specs.Announcing.{announcements, tells_neighbours, ticks, with_aged_ports}
 use Rattle.pl_switch_rule.specs.Delivering.{makes}
 use Rattle.pl_switch_rule.specs.Forwarding.{Choice}
-use Rattle.pl_switch_rule.specs.Granting.{granted, is_granted, learns_source}
+use Rattle.pl_switch_rule.specs.Granting.{granted, held_here, is_granted, learns_source}
 use Rattle.pl_switch_rule.specs.Intake.{comes_from_host, has_member_of, is_member, takes_in_or_spent}
 use Rattle.pl_switch_rule.specs.Levels.{after_message, changes_to, finds_host, with_pod}
 use Rattle.pl_switch_rule.specs.Messages.{answer_frame, flood_frame, floods, forgets_members, hears_manager, invalidates, probes, sets_trap, takes_pod}
 use Rattle.pl_switch_rule.specs.Positions.{after_vote}
 use Rattle.pl_switch_rule.specs.SwitchRule.{comes_from_switch, control_comes, data_comes, hears_control, switch_step}
 use Rattle.pl_switch_rule.specs.Telling.{changes_told}
-use Rattle.pl_switch_rule.proofs.RowActs.{ChangeActs, Each, FrameActs, GrantActs, IsAnyPort, announced_acts, any_group, any_way, changes_acts, floods_acts, groups_acts, learns_source_acts, makes_acts, probes_acts, proposal_acts, switch_frame_acts, taken_in_acts, told_acts}
-use Rattle.pl_switch_rule.proofs.RowViews.{changes_learn, host_frame_learns, with_host}
+use Rattle.pl_switch_rule.proofs.RowActs.{ChangeActs, Each, FrameActs, GrantActs, IsAnyPort, ages_acts, announced_acts, any_group, any_way, changes_acts, floods_acts, frees_acts, groups_acts, idle_acts, learns_source_acts, makes_acts, probes_acts, proposal_acts, switch_frame_acts, taken_in_acts, told_acts}
+use Rattle.pl_switch_rule.proofs.RowViews.{ages_learn, changes_learn, host_frame_learns, trap_keeps_members, with_host}
 
 -- of data frames, and of messages that are about hosts
 pub record HostActs (P : Act → Type 0) : Type 0 where
   pub frames : FrameActs IsAnyPort P
   pub grants : GrantActs P
   pub made : (frame : List ℕ) → P (act.Make frame)
+  pub aged : (address : Pmac) (number : ℕ) → P (act.Tell (tell.Aged address number))
+  pub freed : (address : Pmac) → P (act.Free address)
 
 -- a group whose members became some or none had one before, where members are taken away alone
 had_member : (test keeps : Member → Bool) (members : List Member) → list_any test (filter keeps members) ≡ true → list_any test members ≡ true
@@ -66,10 +70,18 @@ module _ (P : Act → Type 0) where
   changed old new grants later =
       changes_acts P grants old new (subst (λ place. ChangeActs place P) (ap (λ (w : SwitchView). w.place) (changes_learn old new)) later)
 
-  pub ticks_acts : (v : SwitchView) → ChangeActs v.place P → ((port : ℕ) (frame : List ℕ) → P (act.Control port frame)) → Each P (ticks v)
-  ticks_acts v later sent =
+  pub neighbours_acts : (v : SwitchView) → ChangeActs v.place P → ((port : ℕ) (frame : List ℕ) → P (act.Control port frame)) → Each P (tells_neighbours v)
+  neighbours_acts v later sent =
       let aged : SwitchView = with_aged_ports v in
       all_append P (changes_told v aged) (announcements aged) (told_acts P v aged later) (announced_acts P sent aged)
+
+  pub ticks_acts : (v : SwitchView) → ChangeActs v.place P → ((port : ℕ) (frame : List ℕ) → P (act.Control port frame)) →
+      ((port : ℕ) (frame : List ℕ) → P (act.Pass port frame)) → ((frame : List ℕ) → P (act.Make frame)) →
+      ((address : Pmac) (number : ℕ) → P (act.Tell (tell.Aged address number))) → Each P (ticks v)
+  ticks_acts v later sent passed made aged =
+      let told : SwitchView = (tells_neighbours v).view in
+      all_append P (tells_neighbours v).acts (ages told).acts (neighbours_acts v later sent)
+      (ages_acts P aged told (idle_acts P IsAnyPort (λ port frame way. passed port frame) (with_older told) (λ x grant is. tt) (λ x i. made _)))
 
   pub control_acts : (v : SwitchView) (port : ℕ) (frame : List ℕ) → ChangeActs (control_comes v port frame).view.place P → GrantActs P →
       ((at : ℕ) (told : List ℕ) → P (act.Control at told)) → Each P (control_comes v port frame)
@@ -113,12 +125,14 @@ module _ (P : Act → Type 0) where
       invalidates_acts : (old : Pmac) (trap : Trap) (o : Option Grant) → Each P (invalidates v old trap o)
       invalidates_acts old trap None = tt
       invalidates_acts old trap (Some grant) =
-          let forgot : SwitchStep = does (sets_trap v old grant trap) [] ▹ forgets_members old.port grant.amac in
+          let set : SwitchView = sets_trap v old grant trap in
+          let forgot : SwitchStep = does set [] ▹ forgets_members old.port grant.amac in
           all_append P forgot.acts (probes old grant forgot.view).acts
-          (groups_acts P v.members (filter keeps v.members)
-          (λ group other. left group _ (had (has_member_of v.members group) (has_member_of (filter keeps v.members) group) other
-          (had_member (λ m. m.group == group) keeps v.members))))
-          (probes_acts P IsAnyPort may.frames old grant forgot.view tt (λ i. may.made _))
+          (groups_acts P set.members (filter keeps set.members)
+          (λ group other. left group _ (subst (λ ms. has_member_of ms group ≡ true) (trap_keeps_members v old grant trap (standing_trap grant.held))
+          (had (has_member_of set.members group) (has_member_of (filter keeps set.members) group) other
+          (had_member (λ m. m.group == group) keeps set.members)))))
+          (probes_acts P IsAnyPort may.frames.passed old grant forgot.view tt (λ i. may.made _))
         where
           keeps : Member → Bool
           keeps m = not (is_member old.port grant.amac m)
@@ -140,7 +154,8 @@ module _ (P : Act → Type 0) where
       manager_acts (Flood asker asker_ip ip) later =
           cond_both (is_granted v asker) (floods v (flood_frame asker asker_ip ip)) (rests v) (Each P)
           (λ known. floods_acts P IsAnyPort may.frames v (any_group v) (flood_frame asker asker_ip ip) (may.made _)) (λ unknown. tt)
-      manager_acts (Invalidate old new number ip) later = invalidates_acts old (record { new = new; number = number; ip = ip }) (granted v old)
+      manager_acts (Invalidate old new number ip) later = invalidates_acts old (record { new = new; number = number; ip = ip }) (held_here v old)
+      manager_acts (Release address) later = frees_acts P may.freed v address (granted v address)
 
     -- the whole step
     pub step_acts : ((group : ℕ) (any : Bool) → P (act.Tell (tell.Members group any))) → ((port : ℕ) (frame : List ℕ) → P (act.Control port frame)) →
@@ -149,5 +164,7 @@ module _ (P : Act → Type 0) where
         cond_both (is_control frame) (control_comes v port frame) (data_comes choose v port frame)
         (λ (step : SwitchStep). ChangeActs step.view.place P → Each P step)
         (λ control so. control_acts v port frame so may.grants sent) (λ data_frame so. data_acts joined v port frame so) later
-    step_acts joined sent v Tick later = ticks_acts v later sent
+    step_acts joined sent v Tick later =
+        ticks_acts v (subst (λ place. ChangeActs place P) (ap (λ (w : SwitchView). w.place) (ages_learn (tells_neighbours v).view)) later) sent
+        (λ port frame. may.frames.passed port frame tt) may.made may.aged
     step_acts joined sent v (Says says) later = manager_acts v (λ group any had. joined group any) says later

@@ -1,4 +1,4 @@
--- What a switch tells its neighbours at a tick.
+-- What a switch does at a tick.
 use Rattle.std.specs.Prelude.{ℕ, ◌&&◌, not, Bool, List, ◌++◌, is_none, map}
 use Rattle.pl_node.specs.declared.acts.Act.{Act}
 use Rattle.pl_node.specs.declared.acts.Act.TheVariants.{Control}
@@ -6,9 +6,10 @@ use Rattle.pl_layouts.specs.declared.control.Control.TheVariants as control
 use Rattle.pl_layouts.specs.Control.{control_frame}
 use Rattle.pl_node.specs.PortRecords.{is_usable_to, port_of, ports_where, aged}
 use Rattle.pl_layouts.specs.Placement.{is_known}
-use Rattle.pl_steps.specs.Steps.{SwitchStep}
+use Rattle.pl_steps.specs.Steps.{SwitchStep, does, ◌▹◌}
 use Rattle.pl_node.specs.SwitchFacts.{has_granted}
 use Rattle.pl_node.specs.SwitchViews.{SwitchView}
+use Rattle.pl_switch_rule.specs.Aging.{ages}
 use Rattle.pl_switch_rule.specs.Telling.{changes_told}
 use Rattle.pl_node.specs.Announcements.{announcement}
 
@@ -32,6 +33,10 @@ announcements v =
     map (λ port. Control port (announcement v port)) (ports_where v (announces_at v))
     ++ map (λ port. Control port (proposal v)) (ports_where v (proposes_at v))
 
--- A tick: the ports age, and the neighbours are told.
+-- the ports age, and the neighbours are told
+abbrev pub tells_neighbours : SwitchView → SwitchStep
+tells_neighbours v = does (with_aged_ports v) (changes_told v (with_aged_ports v) ++ announcements (with_aged_ports v))
+
+-- A tick: then the addresses age, of which none but a placed edge switch has any.
 abbrev pub ticks : SwitchView → SwitchStep
-ticks v = record { view = with_aged_ports v; acts = changes_told v (with_aged_ports v) ++ announcements (with_aged_ports v) }
+ticks v = tells_neighbours v ▹ ages

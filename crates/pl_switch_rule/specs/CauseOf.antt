@@ -1,6 +1,7 @@
 -- The cause with which a switch drops a frame that comes, or one that it makes: the first that holds, in the order in which a frame meets the
 -- rules of the edge and of forwarding. There is none where the frame is taken, or goes on.
-use Rattle.std.specs.Prelude.{◌≡◌, ℕ, ◌&&◌, ◌||◌, not, Bool, false, if◌then◌else◌, List, [], ◌∷◌, Option, Some, None, is_some, is_none}
+use Rattle.std.specs.Prelude.{◌≡◌, ◌⊎◌, ℕ, ◌&&◌, ◌||◌, not, Bool, false, if◌then◌else◌, List, [], ◌∷◌, Option, Some, None, is_some, is_none}
+use Rattle.std.specs.List.{AllByRecursion}
 use Rattle.pl_frame.specs.declared.address.Mac.{Mac}
 use Rattle.pl_frame.specs.Ethernet.{destination_of, source_of}
 use Rattle.pl_pmac.specs.declared.pmac.Pmac.{Pmac}
@@ -11,7 +12,7 @@ use Rattle.pl_node.specs.SwitchInputs.{SwitchInput, SwitchRule}
 use Rattle.pl_node.specs.SwitchInputs.SwitchInput.{Comes, Says, Tick}
 use Rattle.pl_node.specs.SwitchViews.{SwitchView}
 use Rattle.pl_node.specs.declared.acts.Act.{Act}
-use Rattle.pl_node.specs.declared.acts.Act.TheVariants.{Make}
+use Rattle.pl_node.specs.declared.acts.Act.TheVariants.{Drop, Make}
 use Rattle.pl_node.specs.declared.messages.ToSwitch.{ToSwitch}
 use Rattle.pl_node.specs.declared.messages.ToSwitch.TheVariants.{Answer, Flood}
 use Rattle.pl_node.specs.declared.trap.Trap.{Trap}
@@ -25,7 +26,7 @@ use Rattle.pl_switch_rule.specs.declared.came.Came.TheVariants.{FromHost}
 use Rattle.pl_switch_rule.specs.Delivering.{addresses, last_trap, trap_for}
 use Rattle.pl_switch_rule.specs.DropCauses.{address_after, came_in, first_drop, has_no_hosts, is_for_members, is_of_host, known_source, places, seen}
 use Rattle.pl_switch_rule.specs.Forwarding.{candidates_by}
-use Rattle.pl_switch_rule.specs.Granting.{has_no_address, is_granted, is_local, is_port_spent}
+use Rattle.pl_switch_rule.specs.Granting.{has_no_address, held_here, is_granted, is_local, is_port_spent}
 use Rattle.pl_switch_rule.specs.GroupForwarding.{group_ports_up}
 use Rattle.pl_switch_rule.specs.Intake.{is_for_switch}
 use Rattle.pl_journal.specs.Causes.{is_bad_arp}
@@ -64,7 +65,7 @@ if_nowhere (port ∷ ports) cause = None
 -- a unicast frame for an address from which no trap leads on: it goes to its host here, or on to another edge switch
 abbrev pub cause_at : SwitchView → Pmac → Option Cause
 cause_at v address =
-    if is_local v address then (if is_granted v address then None else Some NoAddress)
+    if is_local v address then (if is_some (held_here v address) then None else Some NoAddress)
     else if_nowhere (candidates_by v address (Some FromHost)) NoNextHop
 
 -- a unicast frame that begins here, or that came for this pod and position: first it follows the traps
@@ -128,11 +129,17 @@ behind_make [] = []
 behind_make (Make frame ∷ acts) = acts
 behind_make (act ∷ acts) = behind_make acts
 
--- The frame that came is dropped for the one cause, if there is one, the frame that the switch made for the other, and none is made besides.
+-- an act that drops no frame
+abbrev pub IsNoDrop : Act → Type 0
+IsNoDrop (Drop cause) = ⊥
+IsNoDrop act = Unit {0}
+
+-- The frame that came is dropped for the one cause, if there is one, and the frame that the switch made for the other. Where it makes more than one, as at a
+-- tick, none of these is dropped.
 pub record DropsFor (acts : List Act) (cause cause_made : Option Cause) : Type 0 where
   pub came : first_drop acts ≡ cause
   pub made : first_drop (behind_make acts) ≡ cause_made
-  pub once : behind_make (behind_make acts) ≡ []
+  pub others : (behind_make (behind_make acts) ≡ []) ⊎ AllByRecursion IsNoDrop (behind_make acts)
 
 -- A rule under which frames are dropped for the first cause that holds, and for no other.
 abbrev pub DropsForFirstCause : SwitchRule → Type 0

@@ -13,7 +13,7 @@ use Rattle.pl_journal.specs.declared.cause.Cause.TheVariants.{NoAddress}
 use Rattle.pl_node.specs.declared.trap.Trap.{Trap}
 use Rattle.pl_switch_rule.specs.Forwarding.{Choice, forwards}
 use Rattle.pl_layouts.specs.Frames.{arriving, is_arp}
-use Rattle.pl_switch_rule.specs.Granting.{granted, is_local}
+use Rattle.pl_switch_rule.specs.Granting.{granted, held_here, is_local}
 use Rattle.pl_steps.specs.Steps.{SwitchStep, does, ◌▹◌}
 use Rattle.pl_node.specs.AddressUses.{standing_trap}
 use Rattle.pl_node.specs.declared.switch_records.Grant.{Grant}
@@ -29,7 +29,7 @@ abbrev pub destination : List ℕ → Pmac
 destination frame = pmac_of (destination_of frame)
 
 abbrev pub delivers : SwitchView → List ℕ → SwitchStep
-delivers v frame = delivers_to v (destination frame) frame (granted v (destination frame))
+delivers v frame = delivers_to v (destination frame) frame (held_here v (destination frame))
 
 abbrev pub grant_trap : Option Grant → Option Trap
 grant_trap None = None

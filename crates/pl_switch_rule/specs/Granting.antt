@@ -1,6 +1,6 @@
 -- The addresses that an edge switch grants to the hosts at its ports, and what it learns of them (PortLand, section 3.2).
-use Rattle.std.specs.Prelude.{ℕ, ◌+◌, ◌-◌, ◌==◌, ◌&&◌, not, nat_lt, Bool, true, false, if◌then◌else◌, List, [], ◌∷◌, ◌++◌, length, Option, Some, None, is_some, slice_get, slice_index_or, slice_set, option_map, unwrap_or}
-use Rattle.std.specs.List.{position_from}
+use Rattle.std.specs.Prelude.{ℕ, ◌+◌, ◌-◌, ◌==◌, ◌&&◌, not, nat_lt, Bool, if◌then◌else◌, List, [], ◌∷◌, ◌++◌, length, Option, Some, None, is_some, slice_get, slice_index_or, slice_set, option_map, unwrap_or}
+use Rattle.std.specs.List.{filter, position_from}
 use Rattle.pl_frame.specs.declared.address.Ip4.{Ip4}
 use Rattle.pl_frame.specs.declared.address.Mac.{Mac}
 use Rattle.pl_frame.specs.Ethernet.{source_of}
@@ -10,12 +10,12 @@ use Rattle.pl_node.specs.declared.messages.ToManager.TheVariants.{Learned}
 use Rattle.pl_layouts.specs.Frames.{packet_in}
 use Rattle.pl_layouts.specs.Placement.{is_known, is_placed}
 use Rattle.pl_steps.specs.Steps.{SwitchStep, rests, ◌▹◌}
-use Rattle.pl_node.specs.AddressUses.{is_in_use}
+use Rattle.pl_node.specs.AddressUses.{is_held, is_in_use}
 use Rattle.pl_node.specs.declared.address_use.AddressUse.TheVariants.{InUse}
 use Rattle.pl_node.specs.declared.switch_records.Grant.{Grant}
 use Rattle.pl_node.specs.declared.switch_records.Source.{Source}
 use Rattle.pl_node.specs.SwitchViews.{SwitchView}
-use Rattle.pl_layouts.specs.Equality.{is_ip, same_mac}
+use Rattle.pl_layouts.specs.Equality.{is_ip, same_mac, same_pmac}
 
 -- the address number vmid of a port; vmids begin at 1
 abbrev pub address_at_port : SwitchView → ℕ → ℕ → Pmac
@@ -33,12 +33,20 @@ grants_at v port = slice_index_or v.grants port []
 abbrev pub grant_number : List Grant → ℕ → Option Grant
 grant_number grants vmid = if vmid == 0 then None else slice_get grants (vmid - 1)
 
--- what was granted here under an address
+-- what was granted here under an address, also where it is free
 abbrev pub granted : SwitchView → Pmac → Option Grant
 granted v address = if is_local v address then grant_number (grants_at v address.port) address.vmid else None
 
 abbrev pub is_granted : SwitchView → Pmac → Bool
 is_granted v address = is_some (granted v address)
+
+abbrev pub unless_free : Option Grant → Option Grant
+unless_free None = None
+unless_free (Some grant) = if is_held grant.held then Some grant else None
+
+-- the same of an address that is not free: it is somebody's
+abbrev pub held_here : SwitchView → Pmac → Option Grant
+held_here v address = unless_free (granted v address)
 
 -- the vmid of the address that a source has in use at a port
 abbrev pub in_use : List Grant → Mac → Option ℕ
@@ -54,33 +62,69 @@ with_grant v address grant = with_grants v address.port (slice_set (grants_at v 
 abbrev pub new_grant : Mac → Option Ip4 → Grant
 new_grant amac ip = record { amac = amac; ip = ip; held = InUse 0 }
 
--- the next address of a port is granted, and the manager is told
-abbrev pub grants_next : SwitchView → ℕ → Mac → Option Ip4 → SwitchStep
-grants_next v port amac ip = let address = address_at_port v port (length (grants_at v port) + 1) in
-    record {
-      view = with_grants v port (grants_at v port ++ new_grant amac ip ∷ []);
-      acts = GrantAct address amac ∷ Tell (Learned address amac ip) ∷ [];
-    }
+-- the vmids of the free addresses of a port, the one that was freed first before all others
+abbrev pub freed_at : SwitchView → ℕ → List ℕ
+freed_at v port = slice_index_or v.freed port []
 
--- a frame gives an address in use an IPv4 address: where that is new, it is kept, and the manager is told
+-- the vmid that a port gives next: that of the address that was freed first; where none is free, the next one, as long as there is one
+abbrev pub next_vmid : List ℕ → List Grant → Option ℕ
+next_vmid (vmid ∷ freed) grants = Some vmid
+next_vmid [] grants = if nat_lt (length grants) 65535 then Some (length grants + 1) else None
+
+abbrev pub with_next : List ℕ → List Grant → Grant → List Grant
+with_next (vmid ∷ freed) grants grant = slice_set grants (vmid - 1) grant
+with_next [] grants grant = grants ++ grant ∷ []
+
+abbrev pub all_but_first : List ℕ → List ℕ
+all_but_first [] = []
+all_but_first (vmid ∷ freed) = freed
+
+-- addresses in order, without one of them
+abbrev pub without : Pmac → List Pmac → List Pmac
+without address addresses = filter (λ other. not (same_pmac other address)) addresses
+
+-- and with that one behind all others
+abbrev pub behind : Pmac → List Pmac → List Pmac
+behind address addresses = without address addresses ++ address ∷ []
+
+-- a new address of a port is granted, which is used from then on, and the manager is told
+abbrev pub grants_new : SwitchView → ℕ → Mac → Option Ip4 → Pmac → SwitchStep
+grants_new v port amac ip address = record {
+  view = record (with_grants v port (with_next (freed_at v port) (grants_at v port) (new_grant amac ip))) {
+    freed = slice_set v.freed port (all_but_first (freed_at v port));
+    used = v.used ++ address ∷ [];
+  };
+  acts = GrantAct address amac ∷ Tell (Learned address amac ip) ∷ [];
+}
+
+-- where every vmid was given, and no address is free, none is granted
+abbrev pub grants_next : SwitchView → ℕ → Mac → Option Ip4 → Option ℕ → SwitchStep
+grants_next v port amac ip None = rests v
+grants_next v port amac ip (Some vmid) = grants_new v port amac ip (address_at_port v port vmid)
+
+-- a host uses its address, which is the one that was used last from then on
+abbrev pub uses : SwitchView → Pmac → Grant → SwitchView
+uses v address grant = record (with_grant v address (record grant { held = InUse 0 })) { used = behind address v.used }
+
+-- A frame uses an address in use, and may give it an IPv4 address: where that is new, it is kept, and the manager is told.
 abbrev pub learns_ip : SwitchView → Pmac → Option Grant → Option Ip4 → SwitchStep
 learns_ip v address None ip = rests v
-learns_ip v address (Some grant) None = rests v
+learns_ip v address (Some grant) None = rests (uses v address grant)
 learns_ip v address (Some grant) (Some ip) =
-    if is_ip grant.ip ip then rests v else record {
-      view = with_grant v address (record grant { ip = Some ip });
+    if is_ip grant.ip ip then rests (uses v address grant) else record {
+      view = uses v address (record grant { ip = Some ip });
       acts = Tell (Learned address grant.amac (Some ip)) ∷ [];
     }
 
--- the last vmid of the port was given
+-- the last vmid of the port was given, and no address of it is free
 abbrev pub is_port_spent : SwitchView → ℕ → Bool
-is_port_spent v port = not (nat_lt (length (grants_at v port)) 65535)
+is_port_spent v port = not (is_some (next_vmid (freed_at v port) (grants_at v port)))
 
 -- A source comes at a port of a placed edge switch: it has an address in use there, or is granted the next one while there is one.
 abbrev pub grants_or_learns : SwitchView → ℕ → Mac → Option Ip4 → Option ℕ → SwitchStep
 grants_or_learns v port amac ip (Some vmid) =
     learns_ip v (address_at_port v port vmid) (grant_number (grants_at v port) vmid) ip
-grants_or_learns v port amac ip None = if is_port_spent v port then rests v else grants_next v port amac ip
+grants_or_learns v port amac ip None = grants_next v port amac ip (next_vmid (freed_at v port) (grants_at v port))
 
 -- the IPv4 address that a remembered source gave
 abbrev pub remembered_ip : Option Source → Mac → Option Ip4
@@ -111,7 +155,7 @@ learns_source v port frame =
     grants_or_learns v port (source_of frame) (sender_ip frame) (in_use (grants_at v port) (source_of frame))
     else remembers v port (source_of frame) (sender_ip frame)
 
--- the source has no address, since the vmids of the port are used up
+-- the source has no address, since the port has none to give
 abbrev pub has_no_address : SwitchView → ℕ → Mac → Bool
 has_no_address v port amac = is_placed v.place && not (is_some (in_use (grants_at v port) amac))
 

@@ -1,13 +1,14 @@
 pub mod Telling
 pub mod Granting
 pub mod Positions
-pub mod Announcing
 pub mod Levels
 pub mod Forwarding
 pub mod GroupForwarding
 pub mod Delivering
 pub mod Intake
 pub mod Messages
+pub mod Aging
+pub mod Announcing
 pub mod SwitchRule
 pub mod DropCauses
 pub mod CauseOf

@@ -4,6 +4,7 @@ pub mod Growing
 pub mod Nothing
 pub mod HostsKnown
 pub mod Settled
+pub mod Ticked
 pub mod Rows
 pub mod Votes
 pub mod EdgeRows

@@ -9,7 +9,7 @@ use Rattle.pl_layouts.specs.declared.control.Ldm.{Ldm}
 use Rattle.pl_layouts.specs.declared.place.Place.{Place}
 use Rattle.pl_migrate.specs.AddressTables.{AddressTableView}
 use Rattle.pl_steps.specs.Taken.{IsTaken}
-use Rattle.pl_switch_rule.specs.Announcing.{ticks, with_aged_ports}
+use Rattle.pl_switch_rule.specs.Announcing.{tells_neighbours, with_aged_ports}
 use Rattle.pl_switch_rule.specs.Levels.{after_message, changes_to, learns_level, learns_pod, notes_edge, with_message}
 use Rattle.pl_switch_rule.specs.Positions.{half}
 use Rattle.pl_switch_rule.specs.Telling.{changes_told}
@@ -65,7 +65,7 @@ pub ticked : (v : SwitchView) (p₀ p : PortsView) (c : Candidacy) (h : List (Op
     state_view p₀ c h edge avoid parts ≡ v → c.position ≡ p.place.position →
     ((u : SwitchView) → put_ports p u ≡ with_aged_ports (put_ports p₀ u)) →
     ((u : SwitchView) → told ≡ out ++ changes_told (state_view p₀ c h edge avoid parts) (put_ports p u) ++ announced (ports_alone p) ++ proposed (with_candidacy c (put_ports p u))) →
-    IsTaken (ticks v) (state_view p c h edge avoid parts) out told
+    IsTaken (tells_neighbours v) (state_view p c h edge avoid parts) out told
 ticked v p₀ p c h edge avoid parts out told is position aged tells =
     let old = state_view p₀ c h edge avoid parts in
     let now = state_view p c h edge avoid parts in
@@ -74,7 +74,7 @@ ticked v p₀ p c h edge avoid parts out told is position aged tells =
     tells old ∙ ap (λ u. ((out ++ changes_told old now) ++ announced now) ++ proposed u) same
     ∙ append_assoc (out ++ changes_told old now) (announced now) (proposed now)
     ∙ append_assoc out (changes_told old now) (announced now ++ proposed now) in
-    subst (λ u. IsTaken (ticks u) now out told) is (record {
+    subst (λ u. IsTaken (tells_neighbours u) now out told) is (record {
       view = aged old;
       acts = acts ∙ ap (λ u. out ++ (changes_told old u ++ (announced u ++ proposed u))) (aged old);
     })

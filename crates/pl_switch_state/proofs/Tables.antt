@@ -6,7 +6,7 @@ use Rattle.pl_lemmas.proofs.Exports.{and_false}
 use Rattle.pl_frame.specs.declared.address.SwitchId.{SwitchId}
 use Rattle.pl_pmac.specs.declared.pmac.Pmac.{Pmac}
 use Rattle.pl_layouts.specs.declared.place.Place.{Place}
-use Rattle.pl_layouts.specs.Placement.{is_known, is_placed, nowhere}
+use Rattle.pl_layouts.specs.Placement.{is_known, nowhere}
 use Rattle.pl_node.specs.declared.acts.Act.{Act}
 use Rattle.pl_node.specs.declared.messages.TreePart.{TreePart}
 use Rattle.pl_node.specs.declared.switch_records.Grant.{Grant}
@@ -17,10 +17,10 @@ use Rattle.pl_steps.specs.Taken.{IsTaken, IsTakenUpTo}
 use Rattle.pl_switch_rule.specs.Forwarding.{Choice}
 use Rattle.pl_switch_rule.specs.Intake.{takes_in}
 use Rattle.pl_switch_rule.specs.Granting.{grant_number, grants_at, is_granted}
-use Rattle.pl_migrate.specs.AddressTables.{AddressTableView, edge_at, granted_in, grantee_at}
+use Rattle.pl_migrate.specs.AddressTables.{AddressTableView, edge_at}
 use Rattle.pl_position.specs.Candidacy.{Candidacy}
 use Rattle.pl_ports.specs.PortsViews.{PortsView}
-use Rattle.pl_edge.specs.EdgeViews.{EdgeView, edge_in, grantee_by, grants_by, place_by, KeepsAddressTable, KeepsEdge, MayBeAt}
+use Rattle.pl_edge.specs.EdgeViews.{EdgeView, edge_in, granted_by as granted_there, grants_by, place_by, KeepsAddressTable, KeepsEdge, MayBeAt}
 use Rattle.pl_edge.specs.Begun.{left_to_do}
 use Rattle.pl_edge.specs.declared.edge_act.EdgeAct.{EdgeAct}
 use Rattle.pl_switch_state.proofs.EdgeRows.{edge_taken}
@@ -94,6 +94,17 @@ taken_by_table v p c h edge after avoid parts row out told (Err e) is at at_afte
 taken_by_table v p c h edge after avoid parts row out told (Ok done) is at at_after may taken =
     edge_taken v p c h edge after avoid parts row out told is at.at at_after.at (taken (state_view p c h edge avoid parts) may)
 
+-- the same of what the table takes wherever it is
+pub taken_anywhere : {E : Type 0} (v : SwitchView) (p : PortsView) (c : Candidacy) (h : List (Option Hold)) (edge after : EdgeView)
+    (avoid : List (SwitchId × ℕ × ℕ)) (parts : List (ℕ × TreePart))
+    (row : SwitchView → SwitchStep) (out told : List Act) (result : Result (Unit {0}) E) →
+    state_view p c h edge avoid parts ≡ v → HasAddressTableAt edge.address_table p.place → HasAddressTableAt after.address_table p.place →
+    OnOk result ((u : SwitchView) → IsTaken (row (edge_in edge u)) (edge_in after u) out told) →
+    OnOk result (IsTaken (row v) (state_view p c h after avoid parts) out told)
+taken_anywhere v p c h edge after avoid parts row out told (Err e) is at at_after taken = taken
+taken_anywhere v p c h edge after avoid parts row out told (Ok done) is at at_after taken =
+    edge_taken v p c h edge after avoid parts row out told is at.at at_after.at (taken (state_view p c h edge avoid parts))
+
 -- ---- what was granted
 
 no_case : (edge core aggregation x : Bool) → (edge && (core || (aggregation && true) || (edge && true && true))) ≡ false → (edge && x) ≡ false
@@ -111,18 +122,13 @@ nowhere_local level None (Some pod) p q h = ap (λ b. is_known level 0 && b) (an
 nowhere_local level (Some position) (Some pod) p q h =
     no_case (is_known level 0) (is_known level 2) (is_known level 1) ((pod == p) && (position == q)) h
 
-grantee_some : (address : Pmac) (grant : Option Grant) → is_some (grantee_at address grant) ≡ is_some grant
-grantee_some address None = refl
-grantee_some address (Some grant) = refl
-
 pub granted_by : (address_table : Option AddressTableView) (k : ℕ) (v : SwitchView) (address : Pmac) → HasAddressTableAt address_table v.place → v.grants ≡ grants_by address_table k →
-    is_some (grantee_by address_table address) ≡ is_granted v address
+    is_some (granted_there address_table address) ≡ is_granted v address
 granted_by None k v address has grants =
     ap (λ b. is_some (if b then grant_number (grants_at v address.port) address.vmid else None))
     (sym (nowhere_local v.place.level v.place.position v.place.pod address.pod address.position (sym has.booked)))
 granted_by (Some address_table) k v address has grants =
-    grantee_some address (granted_in address_table address)
-    ∙ ap (λ (gs : List (List Grant)). is_granted (record v { place = edge_at address_table.pod address_table.position; grants = gs }) address) (sym grants)
+    ap (λ (gs : List (List Grant)). is_granted (record v { place = edge_at address_table.pod address_table.position; grants = gs }) address) (sym grants)
     ∙ ap (λ (place : Place). is_granted (record v { place = place }) address) has.at
 
 first_true : (a b : Bool) (g : Option Grant) → is_some (if a && b then g else None) ≡ true → a ≡ true

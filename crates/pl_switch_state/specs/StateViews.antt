@@ -11,7 +11,7 @@ use Rattle.pl_migrate.specs.AddressTables.{AddressTableView}
 use Rattle.pl_position.specs.Candidacy.{Candidacy}
 use Rattle.pl_position.specs.Holding.{AreHeldByIds}
 use Rattle.pl_ports.specs.PortsViews.{PortsView}
-use Rattle.pl_edge.specs.EdgeViews.{EdgeView, grants_by, place_by}
+use Rattle.pl_edge.specs.EdgeViews.{EdgeView, freed_by, grants_by, place_by, trapped_by, used_by}
 
 abbrev pub state_view : PortsView → Candidacy → List (Option Hold) → EdgeView → List (SwitchId × ℕ × ℕ) → List (ℕ × TreePart) → SwitchView
 state_view ports candidacy holds edge avoid parts = record {
@@ -24,6 +24,9 @@ state_view ports candidacy holds edge avoid parts = record {
   granted = candidacy.granted;
   holds = holds;
   grants = grants_by edge.address_table edge.k;
+  used = used_by edge.address_table;
+  trapped = trapped_by edge.address_table;
+  freed = freed_by edge.address_table edge.k;
   remembered = edge.remembered;
   members = edge.members;
   avoid = avoid;

@@ -3,9 +3,9 @@ ghost use Rattle.pl_edge.specs.Begun.{left_to_do};
 ghost use Rattle.pl_layouts.specs.Placement.{is_known};
 ghost use Rattle.pl_steps.specs.Taken.{IsTaken, IsTakenUpTo};
 ghost use Rattle.pl_switch_rule.specs.Forwarding.{Choice};
-ghost use Rattle.pl_switch_rule.specs.Granting.{granted, is_granted};
+ghost use Rattle.pl_switch_rule.specs.Granting.{granted, held_here, is_granted};
 ghost use Rattle.pl_switch_rule.specs.Intake.{takes_in};
-ghost use Rattle.pl_switch_rule.specs.Messages.{invalidates};
+ghost use Rattle.pl_switch_rule.specs.Messages.{frees, invalidates};
 
 use crate::SwitchState;
 use pl_edge::EdgeAct;
@@ -14,11 +14,11 @@ use pl_node::{Memory, Outbox, Trap};
 use pl_pmac::Pmac;
 
 impl SwitchState {
-    /// Whether an address was granted here, be it in use or not.
+    /// Whether an address was granted here, be it free by now or not.
     pub fn is_granted(&self, address: Pmac) -> bool
         ensures { result ≡ is_granted self.now address }
     {
-        self.edge.find(address).is_some()
+        self.edge.is_granted(address)
     }
 
     /// A frame of a host whose source was learnt comes to an edge switch: it is taken or dropped, or it is
@@ -44,10 +44,10 @@ impl SwitchState {
         self.edge.ingress(port, frame, out)
     }
 
-    /// A host has a newer address than one that was granted here.
+    /// A host has a newer address than one that was granted here. Where that is free, nothing changes.
     pub fn invalidate(&mut self, old: Pmac, to: Trap, out: &mut Outbox) -> Result<(), Memory>
         requires { is_granted self.old old ≡ true }
-        ensures taken { OnOk result (IsTaken (invalidates self.old old to (granted self.old old)) self.new out.old out.new) }
+        ensures taken { OnOk result (IsTaken (invalidates self.old old to (held_here self.old old)) self.new out.old out.new) }
         ensures id { self.new.id ≡ self.old.id }
         ensures k { self.new.k ≡ self.old.k }
         ensures place { self.new.place ≡ self.old.place }
@@ -55,5 +55,17 @@ impl SwitchState {
         ensures avoid { self.new.avoid ≡ self.old.avoid }
     {
         self.edge.invalidate(old, to, out)
+    }
+
+    /// The manager releases an address: where it rests here, it is free from now on.
+    pub fn release(&mut self, pmac: Pmac, out: &mut Outbox) -> Result<(), Memory>
+        ensures taken { OnOk result (IsTaken (frees self.old pmac (granted self.old pmac)) self.new out.old out.new) }
+        ensures id { self.new.id ≡ self.old.id }
+        ensures k { self.new.k ≡ self.old.k }
+        ensures place { self.new.place ≡ self.old.place }
+        ensures ports { self.new.ports ≡ self.old.ports }
+        ensures avoid { self.new.avoid ≡ self.old.avoid }
+    {
+        self.edge.release(pmac, out)
     }
 }

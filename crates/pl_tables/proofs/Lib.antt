@@ -7,3 +7,4 @@ pub mod PortSets
 pub mod Rows
 pub mod Setting
 pub mod Showing
+pub mod Ticked

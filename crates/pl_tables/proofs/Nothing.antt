@@ -42,7 +42,7 @@ nothing_follows v leads tables is at few up avoided down =
 pub same_follows : (v w : SwitchView) (leads : List Lead) (tables : PrefixTables) → w.id ≡ v.id → w.k ≡ v.k → w.place ≡ v.place → w.ports ≡ v.ports → w.avoid ≡ v.avoid →
     TablesFollow v leads tables → TablesFollow w leads tables
 same_follows v w leads tables id k place ports avoid follows =
-    subst (λ (a : List (SwitchId × ℕ × ℕ)). TablesFollow (record { id = w.id; k = w.k; place = w.place; ports = w.ports; attempt = w.attempt; proposed = w.proposed; granted = w.granted; holds = w.holds; grants = w.grants; remembered = w.remembered; members = w.members; avoid = a; parts = w.parts }) leads tables) (sym avoid)
+    subst (λ (a : List (SwitchId × ℕ × ℕ)). TablesFollow (record w { avoid = a }) leads tables) (sym avoid)
     (subst (λ (rs : List PortRecord). TablesFollow (record w { id = w.id; k = w.k; place = w.place; ports = rs; avoid = v.avoid }) leads tables) (sym ports)
     (subst (λ (p : Place). TablesFollow (record w { id = w.id; k = w.k; place = p; ports = v.ports; avoid = v.avoid }) leads tables) (sym place)
     (subst (λ n. TablesFollow (record w { id = w.id; k = n; place = v.place; ports = v.ports; avoid = v.avoid }) leads tables) (sym k)

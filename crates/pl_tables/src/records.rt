@@ -44,6 +44,10 @@ impl KeepsRecords for TableSwitch {
         self.state.invalidate(old, to, out)
     }
 
+    fn release(&mut self, pmac: Pmac, out: &mut Outbox) -> Result<(), Memory> {
+        self.state.release(pmac, out)
+    }
+
     fn hear_pod(&mut self, pod: u16, out: &mut Outbox) -> Result<(), Memory> {
         let done = self.state.hear_pod(pod, out);
         keep_up(done, &mut self.state, &mut self.leads, &mut self.tables)

@@ -1,5 +1,5 @@
 -- A manager that says nothing owes nothing, and a host that sends its first frame alone sends data and joins no group.
-use Rattle.std.proofs.Common.{◌≡◌, IsTrue, List, [], refl, sym, ap, subst, ◌∙◌, zero-add}
+use Rattle.std.proofs.Common.{◌≡◌, IsTrue, List, [], refl, sym, ap, subst, ◌∙◌}
 use Rattle.std.proofs.Math.Nat.{le-add_right}
 use Rattle.std.proofs.lemmas.Bool.{or_right}
 use Rattle.std.specs.List.{filter_map, list_all}
@@ -13,9 +13,10 @@ use Rattle.pl_node.specs.HostInputs.HostAnswer.{Received}
 use Rattle.pl_node.specs.HostInputs.HostInput.{HasMoved, Joins, Leaves, Plays, PlaysRaw, Receives, Retries, Starts}
 use Rattle.pl_node.specs.HostViews.{HostView}
 use Rattle.pl_node.specs.ManagerDuties.{AnswersDuly, AreNumbered, IsGrown, is_for_heard, numbered_by}
-use Rattle.pl_node.specs.ManagerViews.{Learnt, ManagerView, is_heard}
+use Rattle.pl_node.specs.ManagerViews.{ManagerView, is_heard}
 use Rattle.pl_node.specs.declared.reception.Reception.{Reception}
 use Rattle.pl_node.specs.declared.reception.Reception.TheVariants.{Kept}
+use Rattle.pl_node.proofs.Exports.{nothing_numbered}
 use Rattle.pl_host_rule.proofs.Exports.HostOwn as own
 use Rattle.pl_host_rule.proofs.Exports.{joins_by_sending, owes_sends}
 use Rattle.pl_test_sample.specs.Sending.{SendsOneFrame, one_frame_step}
@@ -27,9 +28,6 @@ grown view s = record {
   heard = λ t h. or_right (same_switch s t) (is_heard view t) h;
   addresses = le-add_right view.learnt.count 1;
 }
-
-pub nothing_numbered : (learnt : Learnt) → AreNumbered learnt learnt []
-nothing_numbered learnt = record { registered = refl; count = sym (zero-add learnt.count); next = tt }
 
 pub says_nothing_duly : AnswersDuly SaysNothing
 says_nothing_duly = record {

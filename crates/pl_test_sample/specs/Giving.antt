@@ -12,7 +12,8 @@ use Rattle.pl_node.specs.declared.messages.ToSwitch.TheVariants.{Pod}
 use Rattle.pl_node.specs.ManagerDuties.{AnswersDuly, AreNumbered, IsGrown, ManagerRule, is_for_heard, numbered_by}
 use Rattle.pl_node.specs.ManagerViews.{ManagerView, is_heard}
 use Rattle.pl_layouts.specs.Equality.{same_switch}
-use Rattle.pl_test_sample.specs.Duties.{grown, nothing_numbered}
+use Rattle.pl_node.proofs.Exports.{nothing_numbered}
+use Rattle.pl_test_sample.specs.Duties.{grown}
 
 abbrev pub given : SwitchId → ToManager → List ManagerAct
 given s PodWanted = Say s (Pod 0) ∷ []

@@ -1,7 +1,7 @@
 //! `grant PORT MAC`, `learn PORT MAC [IP]`, `fill PORT COUNT`, `in-use PORT MAC`, `find PMAC`, `follow PMAC`,
-//! `trap PMAC NEW NUMBER [IP]`.
+//! `holding PORT VMID`, `trap PMAC NEW NUMBER [IP]`, `age TICKS`, `next-probe`, `next-aged`, `release PMAC`.
 use crate::pmacs::trap_to;
-use pl_frame::{Ip4, Mac};
+use pl_frame::Mac;
 use pl_lists::Queue;
 use pl_migrate::{AddressTable, GrantError};
 use pl_node::{Memory, Outbox};
@@ -51,7 +51,12 @@ impl Bench {
             "in-use" => self.in_use(alloc, rest, out),
             "find" => self.find(alloc, rest, out),
             "follow" => self.follow(alloc, rest, out),
+            "holding" => self.holding(alloc, rest, out),
             "trap" => self.trap(alloc, rest, out),
+            "age" => self.age(rest, out),
+            "next-probe" => self.next_probe(alloc, out),
+            "next-aged" => self.next_aged(alloc, out),
+            "release" => self.release(alloc, rest, out),
             _ => say(out, "not understood"),
         }
     }
@@ -154,6 +159,55 @@ impl Bench {
         let trap = self.address_table.follow(pmac);
         let line = format!(in alloc; "{trap:?}")?;
         say(out, line.as_str())
+    }
+
+    // PORT VMID
+    fn holding(&self, alloc: Global, rest: &str, out: &mut String) -> Result<(), Memory> {
+        let (port, vmid) = first_word(rest);
+        match (byte(port), vmid.parse::<u16>()) {
+            (Some(port), Ok(vmid)) => {
+                let held = self.address_table.holding(port, vmid);
+                let line = format!(in alloc; "{held:?}")?;
+                say(out, line.as_str())
+            }
+            _ => say(out, "not understood"),
+        }
+    }
+
+    // TICKS
+    fn age(&mut self, rest: &str, out: &mut String) -> Result<(), Memory> {
+        let Some(ticks) = number(rest) else {
+            return say(out, "not understood");
+        };
+        for _ in 0..ticks {
+            self.address_table.age()?;
+        }
+        Ok(())
+    }
+
+    fn next_probe(&mut self, alloc: Global, out: &mut String) -> Result<(), Memory> {
+        let pmac = self.address_table.next_probe();
+        let line = format!(in alloc; "{pmac:?}")?;
+        say(out, line.as_str())
+    }
+
+    fn next_aged(&mut self, alloc: Global, out: &mut String) -> Result<(), Memory> {
+        match self.address_table.next_aged() {
+            Some((pmac, number)) => {
+                let line = format!(in alloc; "{pmac:?} behind {number}")?;
+                say(out, line.as_str())
+            }
+            None => say(out, "none"),
+        }
+    }
+
+    // PMAC
+    fn release(&mut self, alloc: Global, rest: &str, out: &mut String) -> Result<(), Memory> {
+        let Some(pmac) = pmac(rest) else {
+            return say(out, "not understood");
+        };
+        self.address_table.release(pmac, &mut self.told)?;
+        self.tell(alloc, out)
     }
 
     // PMAC NEW NUMBER [IP]

@@ -32,6 +32,7 @@ any_of_switches R begun = record {
   copied = λ id copy. tt;
   made = λ id s frame. tt;
   granted = λ pmac h s port. tt;
+  freed = λ pmac. tt;
   redirected = λ id old new. tt;
   taken = λ id s. tt;
 }

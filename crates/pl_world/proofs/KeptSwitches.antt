@@ -36,6 +36,7 @@ pub act_switches : (s : ℕ) (d : DuringActs) (a : Act) → (act_done s d a).wor
 act_switches s d (act.Control port frame) = refl
 act_switches s d (act.Tell told) = refl
 act_switches s d (act.Grant pmac amac) = granted_switches d.world s pmac (host_of d.world.plan amac)
+act_switches s d (act.Free pmac) = refl
 act_switches s d (act.Make frame) = refl
 act_switches s d (act.Redirect old new) = redirected_switches d old new d.speech
 act_switches s d (act.Pass port frame) = passed_switches s d port frame d.speech

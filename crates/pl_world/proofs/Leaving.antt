@@ -14,7 +14,7 @@ use Rattle.pl_wiring.specs.LiveLinks.{LivePorts}
 use Rattle.pl_journal.specs.declared.cause.Cause.{Cause}
 use Rattle.pl_journal.specs.declared.cause.Cause.TheVariants as cause
 use Rattle.pl_journal.specs.declared.entry.Entry.{Entry}
-use Rattle.pl_journal.specs.declared.entry.Entry.TheVariants.{Copied, Crossed, Dropped, Granted, LinkDown, LinkUp, Made, Moved, Placed, Redirected, Registered, Taken}
+use Rattle.pl_journal.specs.declared.entry.Entry.TheVariants.{Copied, Crossed, Dropped, Freed, Granted, LinkDown, LinkUp, Made, Moved, Placed, Redirected, Registered, Taken}
 use Rattle.pl_node.specs.declared.acts.Act.{Act}
 use Rattle.pl_node.specs.declared.acts.Act.TheVariants as act
 use Rattle.pl_node.specs.declared.acts.HostAct.{HostAct}
@@ -53,6 +53,7 @@ pub record SwitchesWrite (R : WorldView → WorldView → Type 0) (May : Entry �
   pub copied : (id copy : ℕ) → May (Copied id copy)
   pub made : (id : ℕ) (s : SwitchNo) (frame : List ℕ) → May (Made id s frame)
   pub granted : (pmac : Pmac) (h : HostNo) (s : SwitchNo) (port : ℕ) → May (Granted pmac h s port)
+  pub freed : (pmac : Pmac) → May (Freed pmac)
   pub redirected : (id : ℕ) (old new : Pmac) → May (Redirected id old new)
   pub taken : (id : ℕ) (s : SwitchNo) → May (Taken id s)
 
@@ -185,6 +186,7 @@ module _ (R : WorldView → WorldView → Type 0) (May : Entry → Type 0) (writ
     act_left d (act.Control port frame) all = record { left = put_left d.world port (Control frame) (is_failed_at d.world s port); late = all }
     act_left d (act.Tell told) all = record { left = reports d.world s told; late = all }
     act_left d (act.Grant pmac amac) all = record { left = grant_left d.world pmac (host_of d.world.plan amac); late = all }
+    act_left d (act.Free pmac) all = record { left = writes.entry d.world (Freed pmac) (say.freed pmac); late = all }
     act_left d (act.Make frame) all = made_left d.world d.late d.speech frame all
     act_left d (act.Redirect old new) all = redirected_left d.world d.late old new d.speech all
     act_left d (act.Pass port frame) all = passed_left d.world d.late port frame d.speech all

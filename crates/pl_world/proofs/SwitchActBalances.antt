@@ -12,7 +12,7 @@ use Rattle.pl_node.specs.declared.acts.Act.{Act}
 use Rattle.pl_node.specs.declared.acts.Act.TheVariants as act
 use Rattle.pl_journal.specs.declared.cause.Cause.TheVariants as cause
 use Rattle.pl_journal.specs.declared.entry.Entry.{Entry}
-use Rattle.pl_journal.specs.declared.entry.Entry.TheVariants.{Copied, Crossed, Dropped, Granted, Made, Placed, Redirected, Taken}
+use Rattle.pl_journal.specs.declared.entry.Entry.TheVariants.{Copied, Crossed, Dropped, Freed, Granted, Made, Placed, Redirected, Taken}
 use Rattle.pl_node.specs.declared.messages.ToManager.{ToManager}
 use Rattle.pl_node.specs.declared.messages.ToSwitch.{ToSwitch}
 use Rattle.pl_layouts.specs.declared.place.Place.{Place}
@@ -270,6 +270,7 @@ wrong_stays : (a : Act) → frame_state_after Wrong a ≡ Wrong
 wrong_stays (act.Control port frame) = refl
 wrong_stays (act.Tell told) = refl
 wrong_stays (act.Grant pmac amac) = refl
+wrong_stays (act.Free pmac) = refl
 wrong_stays (act.Make frame) = refl
 wrong_stays (act.Redirect old new) = refl
 wrong_stays (act.Pass port frame) = refl
@@ -294,6 +295,7 @@ pub act_steady : (s k : ℕ) (w : WorldView) (speech : Speech) (late : List Entr
 act_steady s k w Silent late (act.Control port frame) fit legal st = control_steady s k w Silent late port frame fit st
 act_steady s k w Silent late (act.Tell told) fit legal st = tell_steady s k w Silent late told st
 act_steady s k w Silent late (act.Grant pmac amac) fit legal st = grant_steady s k w Silent late pmac (host_of w.plan amac) st
+act_steady s k w Silent late (act.Free pmac) fit legal st = note_steady s k w Silent late (Freed pmac ∷ []) refl (λ id. refl) st
 act_steady s k w Silent late (act.Make frame) fit legal st = make_steady s k w Silent late frame (λ id. refl) st
 act_steady s k w Silent late (act.Redirect old new) fit legal st = absurd legal
 act_steady s k w Silent late (act.Pass port frame) fit legal st = absurd legal
@@ -304,6 +306,8 @@ act_steady s k w (Waiting id again) late (act.Tell told) fit legal st = tell_ste
 act_steady s k w (Waiting id false) late (act.Grant pmac amac) fit legal st =
     grant_steady s k w (Waiting id false) late pmac (host_of w.plan amac) st
 act_steady s k w (Waiting id true) late (act.Grant pmac amac) fit legal st = absurd legal
+act_steady s k w (Waiting id false) late (act.Free pmac) fit legal st = absurd legal
+act_steady s k w (Waiting id true) late (act.Free pmac) fit legal st = absurd legal
 act_steady s k w (Waiting id false) late (act.Make frame) fit legal st = absurd legal
 act_steady s k w (Waiting id true) late (act.Make frame) fit legal st = absurd legal
 act_steady s k w (Waiting id again) late (act.Redirect old new) fit legal st = redirect_steady s k w late id again old new st
@@ -316,6 +320,7 @@ act_steady s k w (Waiting id again) late (act.Drop cause) fit legal st =
 act_steady s k w (Passed id) late (act.Control port frame) fit legal st = control_steady s k w (Passed id) late port frame fit st
 act_steady s k w (Passed id) late (act.Tell told) fit legal st = tell_steady s k w (Passed id) late told st
 act_steady s k w (Passed id) late (act.Grant pmac amac) fit legal st = absurd legal
+act_steady s k w (Passed id) late (act.Free pmac) fit legal st = absurd legal
 act_steady s k w (Passed id) late (act.Make frame) fit legal st = make_steady s k w (Passed id) late frame (λ i. refl) st
 act_steady s k w (Passed id) late (act.Redirect old new) fit legal st = absurd legal
 act_steady s k w (Passed id) late (act.Pass port frame) fit legal st = copy_steady s k w late id port frame fit st
@@ -324,6 +329,7 @@ act_steady s k w (Passed id) late (act.Drop cause) fit legal st = absurd legal
 act_steady s k w Over late (act.Control port frame) fit legal st = control_steady s k w Over late port frame fit st
 act_steady s k w Over late (act.Tell told) fit legal st = tell_steady s k w Over late told st
 act_steady s k w Over late (act.Grant pmac amac) fit legal st = absurd legal
+act_steady s k w Over late (act.Free pmac) fit legal st = absurd legal
 act_steady s k w Over late (act.Make frame) fit legal st = make_steady s k w Over late frame (λ i. refl) st
 act_steady s k w Over late (act.Redirect old new) fit legal st = absurd legal
 act_steady s k w Over late (act.Pass port frame) fit legal st = absurd legal
@@ -336,6 +342,7 @@ pub act_said : (s : ℕ) (w : WorldView) (speech : Speech) (late : List Entry) (
 act_said s w Silent late (act.Control port frame) legal = refl
 act_said s w Silent late (act.Tell told) legal = refl
 act_said s w Silent late (act.Grant pmac amac) legal = refl
+act_said s w Silent late (act.Free pmac) legal = refl
 act_said s w Silent late (act.Make frame) legal = refl
 act_said s w Silent late (act.Redirect old new) legal = absurd legal
 act_said s w Silent late (act.Pass port frame) legal = absurd legal
@@ -344,6 +351,7 @@ act_said s w Silent late (act.Drop cause) legal = absurd legal
 act_said s w (Waiting id false) late (act.Control port frame) legal = refl
 act_said s w (Waiting id false) late (act.Tell told) legal = refl
 act_said s w (Waiting id false) late (act.Grant pmac amac) legal = refl
+act_said s w (Waiting id false) late (act.Free pmac) legal = absurd legal
 act_said s w (Waiting id false) late (act.Make frame) legal = absurd legal
 act_said s w (Waiting id false) late (act.Redirect old new) legal = refl
 act_said s w (Waiting id false) late (act.Pass port frame) legal = refl
@@ -352,6 +360,7 @@ act_said s w (Waiting id false) late (act.Drop cause) legal = refl
 act_said s w (Waiting id true) late (act.Control port frame) legal = refl
 act_said s w (Waiting id true) late (act.Tell told) legal = refl
 act_said s w (Waiting id true) late (act.Grant pmac amac) legal = absurd legal
+act_said s w (Waiting id true) late (act.Free pmac) legal = absurd legal
 act_said s w (Waiting id true) late (act.Make frame) legal = absurd legal
 act_said s w (Waiting id true) late (act.Redirect old new) legal = refl
 act_said s w (Waiting id true) late (act.Pass port frame) legal = refl
@@ -360,6 +369,7 @@ act_said s w (Waiting id true) late (act.Drop cause) legal = refl
 act_said s w (Passed id) late (act.Control port frame) legal = refl
 act_said s w (Passed id) late (act.Tell told) legal = refl
 act_said s w (Passed id) late (act.Grant pmac amac) legal = absurd legal
+act_said s w (Passed id) late (act.Free pmac) legal = absurd legal
 act_said s w (Passed id) late (act.Make frame) legal = refl
 act_said s w (Passed id) late (act.Redirect old new) legal = absurd legal
 act_said s w (Passed id) late (act.Pass port frame) legal = refl
@@ -368,6 +378,7 @@ act_said s w (Passed id) late (act.Drop cause) legal = absurd legal
 act_said s w Over late (act.Control port frame) legal = refl
 act_said s w Over late (act.Tell told) legal = refl
 act_said s w Over late (act.Grant pmac amac) legal = absurd legal
+act_said s w Over late (act.Free pmac) legal = absurd legal
 act_said s w Over late (act.Make frame) legal = refl
 act_said s w Over late (act.Redirect old new) legal = absurd legal
 act_said s w Over late (act.Pass port frame) legal = absurd legal

@@ -13,7 +13,7 @@ use Rattle.pl_layouts.specs.Placement.{same_place}
 use Rattle.pl_journal.specs.declared.cause.Cause.{Cause}
 use Rattle.pl_journal.specs.declared.cause.Cause.TheVariants.{LinkDown}
 use Rattle.pl_journal.specs.declared.entry.Entry.{Entry}
-use Rattle.pl_journal.specs.declared.entry.Entry.TheVariants.{Copied, Crossed, Dropped, Granted, Made, Placed, Redirected, Taken}
+use Rattle.pl_journal.specs.declared.entry.Entry.TheVariants.{Copied, Crossed, Dropped, Freed, Granted, Made, Placed, Redirected, Taken}
 use Rattle.pl_world.specs.declared.item.Item.TheVariants.{Control, Data}
 use Rattle.pl_world.specs.declared.spoken_frame.SpokenFrame.{SpokenFrame}
 use Rattle.pl_world.specs.declared.spoken_frame.SpokenFrame.TheVariants.{Over, Passed, Silent, Waiting}
@@ -106,6 +106,12 @@ module _ (is_failed : ℕ → Bool) (begun : ℕ) where
     over_grant (Passed id) pmac amac = record { drops = refl; makes = refl }
     over_grant Over pmac amac = record { drops = refl; makes = refl }
 
+    over_free : (speech : SpokenFrame) (pmac : Pmac) → LeavesTo is_failed begun speech (act.Free pmac ∷ acts) acts
+    over_free Silent pmac = record { drops = refl; makes = refl }
+    over_free (Waiting id again) pmac = record { drops = refl; makes = refl }
+    over_free (Passed id) pmac = record { drops = refl; makes = refl }
+    over_free Over pmac = record { drops = refl; makes = refl }
+
     -- a frame that is made has the next number, whatever was said before
     made_next : (speech : SpokenFrame) (frame : List ℕ) →
         (dropped_by_acts is_failed (begun + 1) (Some (begun + 1)) acts ≡ rest is_failed begun speech (act.Make frame ∷ acts))
@@ -174,6 +180,9 @@ module _ (s : ℕ) where
   walk w speech late (act.Grant pmac amac ∷ acts) fresh =
       leaves w speech late (act.Grant pmac amac ∷ acts) acts _ (over_grant (is_failed_at w s) w.begun acts speech pmac amac)
       (grants w speech late pmac acts (host_of w.plan amac) (λ v. walk v speech late acts fresh))
+  walk w speech late (act.Free pmac ∷ acts) fresh =
+      leaves w speech late (act.Free pmac ∷ acts) acts _ (over_free (is_failed_at w s) w.begun acts speech pmac)
+      (adds_then (adds_quiet w.journal (Freed pmac) refl refl) (walk (noted w (Freed pmac)) speech late acts fresh))
   walk w speech late (act.Make frame ∷ acts) fresh =
       let next : ℕ = w.begun + 1 in
       let said = made_next (is_failed_at w s) w.begun acts speech frame in

@@ -5,7 +5,7 @@ use Rattle.pl_node.specs.declared.acts.Act.{Act}
 use Rattle.pl_node.specs.declared.acts.Act.TheVariants as act
 use Rattle.pl_journal.specs.declared.cause.Cause.TheVariants.{LinkDown}
 use Rattle.pl_journal.specs.declared.entry.Entry.{Entry}
-use Rattle.pl_journal.specs.declared.entry.Entry.TheVariants.{Copied, Crossed, Dropped, Granted, Made, Placed, Redirected, Taken}
+use Rattle.pl_journal.specs.declared.entry.Entry.TheVariants.{Copied, Crossed, Dropped, Freed, Granted, Made, Placed, Redirected, Taken}
 use Rattle.pl_layouts.specs.declared.place.Place.{Place}
 use Rattle.pl_node.specs.SwitchViews.{SwitchView}
 use Rattle.pl_layouts.specs.Placement.{same_place}
@@ -85,6 +85,7 @@ abbrev pub act_done : ℕ → DuringActs → Act → DuringActs
 act_done s d (act.Control port frame) = in_world d (sent_if_live d.world s port (Control frame))
 act_done s d (act.Tell told) = in_world d (told_manager d.world s told)
 act_done s d (act.Grant pmac amac) = in_world d (granted d.world s pmac (host_of d.world.plan amac))
+act_done s d (act.Free pmac) = in_world d (noted d.world (Freed pmac))
 act_done s d (act.Make frame) = made s d frame
 act_done s d (act.Redirect old new) = redirected d old new d.speech
 act_done s d (act.Pass port frame) = passed s d port frame d.speech

@@ -26,6 +26,7 @@ impl<S: SwitchLogic, M: ManagerLogic, H: HostLogic> World<S, M, H> {
             Act::Control(port, frame) => self.send_out(s, port, Item::Control(frame)),
             Act::Tell(told) => self.tell(s, told),
             Act::Grant { pmac, amac } => self.grant(s, pmac, amac),
+            Act::Free(pmac) => self.note(Entry::Freed(pmac)),
             Act::Make(frame) => self.make(s, frame, progress),
             Act::Redirect { old, new } => self.redirect(old, new, progress),
             Act::Pass(port, frame) => self.pass(s, port, frame, progress),

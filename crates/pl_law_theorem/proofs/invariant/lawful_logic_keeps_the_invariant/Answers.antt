@@ -16,7 +16,7 @@ returns g c = λ plan limits moments new can run.
       run = c.lawful_logic_is_one_lossy_switch.ensures.run plan limits moments new can run;
       trails = c.lawful_logic_is_one_lossy_switch.ensures.trails plan limits moments new can run;
       written = c.places_are_what_was_written_last_in_every_run.ensures plan limits moments new run;
-      numbered = c.addresses_are_registered_in_order_in_every_run.ensures.same plan limits moments new run;
+      numbered = c.addresses_are_registered_in_order_in_every_run.ensures.last plan limits moments new run;
       placed = c.settled_runs_have_current_records_and_positions.ensures.placed plan limits moments new can run;
       registered = c.lawful_logic_registers_hosts_at_rest.ensures plan limits moments new can run;
     }

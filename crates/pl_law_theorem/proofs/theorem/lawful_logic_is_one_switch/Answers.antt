@@ -16,5 +16,8 @@ returns g c = λ plan limits moments new can run.
       moments = λ limit before after old began went.
           let from : Plan → Type 0 = λ p. WorldRun g.S.SwitchLogic.rule g.M.ManagerLogic.rule g.H.HostLogic.rule (booted p limit) before old in
           c.lawful_logic_keeps_the_invariant.ensures plan limit before old can (subst from same began);
+      given = λ limit before between after old later x began went rest more freed.
+          let from : Plan → Type 0 = λ p. WorldRun g.S.SwitchLogic.rule g.M.ManagerLogic.rule g.H.HostLogic.rule (booted p limit) before old in
+          c.lawful_logic_grants_no_address_while_anything_stands_for_it.ensures plan limit before between old later x can (subst from same began) went more freed;
       sure = c.sure_frames_arrive.ensures plan limits moments new can run;
     }

@@ -1,9 +1,5 @@
-use Rattle.std.proofs.Common.{ap, ◌∙◌}
-use Rattle.std.specs.List.{find}
-use Rattle.pl_layouts.specs.Equality.{same_mac}
-use Rattle.pl_node.specs.ManagerViews.{Registration}
 use Rattle.pl_manager_rule.proofs.History.{ips_said, links_said, members_are_said, owners_said, places_said, pods_are_asked, registrations_are_told}
-use Rattle.pl_manager_rule.proofs.Newest.{newest_is_first}
+use Rattle.pl_manager_rule.proofs.Newest.{newest_is_last}
 use Rattle.pl_manager_rule.proofs.manager_laws.what_is_known_is_what_was_told_last.Goals as goal
 
 pub returns-clause-places : goal.returns-clause-places
@@ -22,8 +18,7 @@ pub returns-clause-registrations : goal.returns-clause-registrations
 returns-clause-registrations c = registrations_are_told
 
 pub returns-clause-newest : goal.returns-clause-newest
-returns-clause-newest c = λ k words amac.
-    newest_is_first k words amac ∙ ap (find (λ (r : Registration). same_mac r.amac amac)) (registrations_are_told k words)
+returns-clause-newest c = newest_is_last
 
 pub returns-clause-ips : goal.returns-clause-ips
 returns-clause-ips c = ips_said

@@ -4,4 +4,4 @@ use Rattle.pl_migrate.specs.PortGrants.{is_used_by}
 use Rattle.pl_migrate.proofs.port_grants.newest_in_use.Given as goal
 
 abbrev pub invariant-loop-n : goal.invariant-loop-n
-invariant-loop-n l = list_any (is_used_by l.amac) (drop l.n l.grants) ≡ false
+invariant-loop-n l = list_any (is_used_by l.amac) (drop l.n l.tenancies) ≡ false

@@ -1,5 +1,5 @@
 use Rattle.pl_manager.specs.Manager.{manager_view}
-use Rattle.pl_manager.proofs.Heard.{address_told, link_told, members_told, place_told, pod_told, question_told}
+use Rattle.pl_manager.proofs.Heard.{address_told, aged_told, link_told, members_told, place_told, pod_told, question_told}
 use Rattle.pl_manager.proofs.Pods.{few_pods}
 use Rattle.pl_manager.proofs.manager_logic.ManagerManagerLogic.hears.Goals as goal
 
@@ -25,6 +25,11 @@ pub returns-in-Learned-clause-step : goal.returns-in-Learned-clause-step
 returns-in-Learned-clause-step c =
     address_told c.learn.result (manager_view c.args.self.now) c.args.switch c.args.says.now c.args.out.now c.learn.new.out
     c.in-Learned.pmac c.in-Learned.amac c.in-Learned.ip c.learn.new.registry c.in-Learned.is c.learn.ensures.learnt c.learn.ensures.acts
+
+pub returns-in-Aged-clause-step : goal.returns-in-Aged-clause-step
+returns-in-Aged-clause-step c =
+    aged_told c.age.result (manager_view c.args.self.now) c.args.switch c.args.says.now c.args.out.now c.age.new.out
+    c.in-Aged.pmac c.in-Aged.number c.age.new.registry c.in-Aged.is c.age.ensures.learnt c.age.ensures.acts
 
 pub returns-in-Query-clause-step : goal.returns-in-Query-clause-step
 returns-in-Query-clause-step c =

@@ -1,8 +1,8 @@
-use Rattle.std.proofs.Common.{◌≤◌, ◌+◌, List, length, ap, ◌∙◌, arith}
+use Rattle.std.proofs.Common.{◌≤◌, ◌+◌, List, length, ap, ◌∙◌, arith, sym}
 use Rattle.std.specs.List.{sum_by}
-use Rattle.pl_node.specs.declared.switch_records.Grant.{Grant}
+use Rattle.pl_migrate.specs.declared.tenancy.Tenancy.{Tenancy}
 use Rattle.pl_migrate.specs.AddressTables.{AddressTableView}
-use Rattle.pl_migrate.proofs.Counted.{all_counted, counted_first, counted_more}
+use Rattle.pl_migrate.proofs.Counted.{all_counted, all_shown, counted_first, counted_more}
 use Rattle.pl_migrate.proofs.address_table.AddressTable.addresses.Goals as goal
 
 pub loop-port-init : goal.loop-port-init
@@ -10,8 +10,8 @@ loop-port-init c = counted_first c.deref-port-items.result.now
 
 pub overflow_add-count : goal.overflow_add-count
 overflow_add-count c =
-    let ports = ap (λ (ports : List (List Grant)). length ports) c.deref-port-items.ensures.value in
-    let most = c.self.invariant in
+    let ports = ap (λ (ports : List (List Tenancy)). length ports) c.deref-port-items.ensures.value in
+    let most = c.self.invariant.few in
     let within = c.loop-port.invariant.within in
     let short = c.len-count.ensures.within in
     let inside = c.loop-port-test.true in
@@ -27,4 +27,6 @@ pub returns : goal.returns
 returns c =
     let done : length c.deref-port-items.result.now ≤ c.loop-port.port-index = omega arith in
     all_counted c.deref-port-items.result.now c.loop-port.port-index c.loop-port.count done c.loop-port.invariant
-    ∙ ap (λ (ports : List (List Grant)). sum_by length ports) (c.deref-port-items.ensures.value ∙ ap (λ (address_table : AddressTableView). address_table.grants) c.self.view_is)
+    ∙ ap (λ (ports : List (List Tenancy)). sum_by length ports) c.deref-port-items.ensures.value
+    ∙ sym (all_shown c.self.inside.tick c.self.inside.ports.items)
+    ∙ ap (λ (address_table : AddressTableView). sum_by length address_table.grants) c.self.view_is

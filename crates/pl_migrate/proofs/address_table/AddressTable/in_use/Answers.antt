@@ -1,27 +1,46 @@
-use Rattle.std.proofs.Common.{◌≡◌, ◌<◌, ℕ, List, [], length, get_or, Some, sym, ap, subst, ◌∙◌}
-use Rattle.std.proofs.lemmas.List.{get_or_read}
-use Rattle.pl_node.specs.declared.switch_records.Grant.{Grant}
+use Rattle.std.proofs.Common.{◌≡◌, ◌<◌, ◌∙◌, ℕ, List, Option, Some, None, ap, length, subst, sym}
 use Rattle.pl_pmac.specs.declared.pmac.Pmac.{Pmac}
-use Rattle.pl_migrate.specs.AddressTables.{AddressTableView, grants_of, numbered}
-use Rattle.pl_migrate.proofs.Laws.{found_only}
+use Rattle.pl_migrate.specs.AddressTables.{AddressTableView, address_in_use, numbered}
+use Rattle.pl_migrate.specs.declared.tenancy.Tenancy.{Tenancy}
+use Rattle.pl_migrate.proofs.InUse.{only_one, used_here, within_ports}
 use Rattle.pl_migrate.proofs.address_table.AddressTable.in_use.Goals as goal
 
-read : (ports : List (List Grant)) (address_table : AddressTableView) (n port : ℕ) (grants : List Grant) → ports ≡ address_table.grants → n ≡ port →
-    port < length address_table.grants → grants ≡ get_or ports n grants → grants ≡ grants_of address_table port
-read ports address_table n port grants all same within is =
-    let inside : n < length ports = subst (λ m. m < length ports) (sym same) (subst (λ (ps : List (List Grant)). port < length ps) (sym all) within) in
-    get_or_read ports n grants inside is [] ∙ ap (λ m. get_or ports m []) same ∙ ap (λ (ps : List (List Grant)). get_or ps port []) all
+pub index-requires : goal.index-requires
+index-requires c =
+    let s = c.self.inside in
+    subst (λ n. c.from.result < n) (sym s.ports.ok.0) (subst (λ n. n < length s.ports.items) (sym c.from.ensures)
+    (within_ports s.pod s.position s.tick s.ports.items s.orders c.self.invariant c.args.self.now c.self.view_is c.args.port c.requires))
+
+pub returns-in-Some-clause-used : goal.returns-in-Some-clause-used
+returns-in-Some-clause-used c =
+    ap (λ (p : Pmac). Some p) c.address.ensures ∙ sym (ap (numbered c.args.self.now c.args.port) c.in-Some.is)
+    ∙ used_here c.self.inside.pod c.self.inside.position c.self.inside.tick c.self.inside.ports.items c.self.inside.orders c.self.invariant
+    c.args.self.now c.self.view_is c.args.port c.requires
+    c.from.result c.index.result.now c.from.ensures c.index.ensures c.args.amac c.in_use.result c.in_use.ensures.found
 
 pub returns-in-Some-clause-only : goal.returns-in-Some-clause-only
 returns-in-Some-clause-only c = λ pmac own.
-    let grants = read c.self.inside.ports.items c.args.self.now c.from.result c.args.port c.index.result.now (ap (λ (address_table : AddressTableView). address_table.grants) c.self.view_is)
-    c.from.ensures c.requires c.index.ensures in
+    let s = c.self.inside in
     ap (λ (p : Pmac). Some p) c.address.ensures ∙ sym (ap (numbered c.args.self.now c.args.port) c.in-Some.is)
-    ∙ found_only c.args.self.now c.args.port c.args.amac c.index.result.now c.in_use.result grants c.in_use.ensures.only c.in_use.ensures.found pmac own
+    ∙ used_here c.self.inside.pod c.self.inside.position c.self.inside.tick c.self.inside.ports.items c.self.inside.orders c.self.invariant
+    c.args.self.now c.self.view_is c.args.port c.requires
+    c.from.result c.index.result.now c.from.ensures c.index.ensures c.args.amac c.in_use.result c.in_use.ensures.found
+    ∙ only_one s.pod s.position s.tick s.ports.items s.orders c.self.invariant c.args.self.now c.self.view_is c.args.port c.requires c.from.result
+    c.index.result.now
+    c.from.ensures c.index.ensures c.args.amac c.in_use.ensures.only pmac own
+
+pub returns-in-None-clause-used : goal.returns-in-None-clause-used
+returns-in-None-clause-used c = sym (ap (numbered c.args.self.now c.args.port) c.in-None.is)
+    ∙ used_here c.self.inside.pod c.self.inside.position c.self.inside.tick c.self.inside.ports.items c.self.inside.orders c.self.invariant c.args.self.now
+    c.self.view_is c.args.port c.requires
+    c.from.result c.index.result.now c.from.ensures c.index.ensures c.args.amac c.in_use.result c.in_use.ensures.found
 
 pub returns-in-None-clause-only : goal.returns-in-None-clause-only
 returns-in-None-clause-only c = λ pmac own.
-    let grants = read c.self.inside.ports.items c.args.self.now c.from.result c.args.port c.index.result.now (ap (λ (address_table : AddressTableView). address_table.grants) c.self.view_is)
-    c.from.ensures c.requires c.index.ensures in
-    sym (ap (numbered c.args.self.now c.args.port) c.in-None.is)
-    ∙ found_only c.args.self.now c.args.port c.args.amac c.index.result.now c.in_use.result grants c.in_use.ensures.only c.in_use.ensures.found pmac own
+    let s = c.self.inside in
+    sym (ap (numbered c.args.self.now c.args.port) c.in-None.is) ∙ used_here c.self.inside.pod c.self.inside.position c.self.inside.tick
+    c.self.inside.ports.items c.self.inside.orders c.self.invariant c.args.self.now c.self.view_is c.args.port c.requires
+    c.from.result c.index.result.now c.from.ensures c.index.ensures c.args.amac c.in_use.result c.in_use.ensures.found
+    ∙ only_one s.pod s.position s.tick s.ports.items s.orders c.self.invariant c.args.self.now c.self.view_is c.args.port c.requires c.from.result
+    c.index.result.now
+    c.from.ensures c.index.ensures c.args.amac c.in_use.ensures.only pmac own

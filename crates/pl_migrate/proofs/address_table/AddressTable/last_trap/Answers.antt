@@ -6,7 +6,8 @@ use Rattle.pl_migrate.proofs.address_table.AddressTable.last_trap.Goals as goal
 
 pub loop-left-preserved : goal.loop-left-preserved
 loop-left-preserved c = λ v.
-    sym (last_further c.loop-left.left (address_table_in c.args.self.now v) c.loop-left.last c.in-Some.next c.loop-left-test.true (sym c.in-Some.is ∙ c.next_trap.ensures))
+    sym (last_further c.loop-left.left (address_table_in c.args.self.now v) c.loop-left.last c.in-Some.next c.loop-left-test.true (sym c.in-Some.is
+    ∙ c.next_trap.ensures))
     ∙ c.loop-left.invariant v
 
 pub returns-in-None : goal.returns-in-None

@@ -10,11 +10,12 @@ loop-port-preserved c =
     let e = c.in_ok-learn_remembered.ensures in
     let read = ap (λ n. get_or c.loop-port.remembered n None) c.from.ensures in
     let within = c.loop-port-test.true in
-    subst (λ n. IsLearning c.args.k (c.loop-port.port + 1) c.learn_remembered.new.self c.args.self.now (slice_set c.loop-port.remembered n None) c.args.remembered.now c.learn_remembered.new.out c.args.out.now)
+    subst (λ n. IsLearning c.args.k (c.loop-port.port + 1) c.learn_remembered.new.self c.args.self.now
+    (slice_set c.loop-port.remembered n None) c.args.remembered.now c.learn_remembered.new.out c.args.out.now)
     (sym c.from-in-loop-port.ensures)
     (learning_more c.args.k c.loop-port.port c.loop-port.self c.learn_remembered.new.self c.args.self.now c.loop-port.remembered c.args.remembered.now
     (get_or c.loop-port.remembered c.from.result None) c.loop-port.out c.learn_remembered.new.out c.args.out.now
-    within read e.taken e.kept e.traps c.loop-port.invariant)
+    within read e.taken e.kept e.traps e.caught_up c.loop-port.invariant)
 
 pub returns-clause-taken : goal.returns-clause-taken
 returns-clause-taken c =

@@ -1,13 +1,13 @@
-use Rattle.std.proofs.Common.{◌≡◌, ◌∙◌, ◌+◌, ◌∷◌, Bool, false, cond, ap, sym, length, map, List, Option, Some, None, is_some}
+use Rattle.std.proofs.Common.{◌≡◌, ◌∙◌, ◌∷◌, false, not, cond, ap, sym, map, List, Some, is_some}
 use Rattle.std.specs.Map.{lookup}
 use Rattle.indexmap.specs.IndexMap.{insert_entry}
 use Rattle.pl_pmac.specs.declared.pmac.Pmac.{Pmac}
 use Rattle.pl_layouts.specs.Equality.{same_pmac}
 use Rattle.pl_node.specs.ManagerViews.{LearntAddress, newest}
-use Rattle.pl_manager_rule.specs.ManagerRule.{is_registered, learnt_as, recalled, told_again, with_address}
+use Rattle.pl_manager_rule.specs.ManagerRule.{is_registered, learnt_as, recalled, told_again}
 use Rattle.pl_registry.specs.declared.addresses.Known.{Known}
 use Rattle.pl_registry.specs.declared.addresses.Told.{Told}
-use Rattle.pl_registry.specs.Addresses.{learnt_of, told_at}
+use Rattle.pl_registry.specs.Addresses.{learnt_of, told_at, with_address_as}
 use Rattle.pl_registry.proofs.Finding.{Table, each_once, found_still, is_with_address, looked_up, put_in, registered_where_known, told_ip}
 use Rattle.pl_registry.proofs.addresses.Addresses.learn.Goals as goal
 
@@ -43,12 +43,13 @@ pub returns-in_ok-insert-in-Some-clause-ok : goal.returns-in_ok-insert-in-Some-c
 returns-in_ok-insert-in-Some-clause-ok c =
     let h = told_again_at c in
     is_with_address c.self.inside.known.entries c.insert.new.self.entries c.self.inside.newest.entries c.args.pmac c.args.told c.in-Some.known c.self.invariant h.there h.is
-    ∙ ap (λ (v : List LearntAddress). with_address (learnt_of v) (told_at c.args.pmac c.args.told)) c.self.view_is
+    c.args.number
+    ∙ ap (λ (v : List LearntAddress). with_address_as c.args.number (learnt_of v) (told_at c.args.pmac c.args.told)) c.self.view_is
 
-pub returns-in_ok-insert-in-Some-clause-number : goal.returns-in_ok-insert-in-Some-clause-number
-returns-in_ok-insert-in-Some-clause-number c =
+pub returns-in_ok-insert-in-Some-clause-new : goal.returns-in_ok-insert-in-Some-clause-new
+returns-in_ok-insert-in-Some-clause-new c =
     let h = told_again_at c in
-    sym (ap (λ b. cond b None (Some (length c.args.self.now + 1)))
+    sym (ap not
     (ap (λ (v : List LearntAddress). is_registered v c.args.pmac) (sym c.self.view_is)
     ∙ registered_where_known c.self.inside.known.entries c.args.pmac c.self.invariant.once ∙ ap is_some h.there))
 
@@ -61,12 +62,10 @@ first_told c =
 pub returns-in_ok-add-in-None-clause-ok : goal.returns-in_ok-add-in-None-clause-ok
 returns-in_ok-add-in-None-clause-ok c =
     let new = told_at c.args.pmac c.args.told in
-    let n = length c.args.self.now + 1 in
+    let n = c.args.number in
     c.in_ok-add-in-None.ensures.ok
     ∙ sym (ap (λ b. cond b (map (told_again new) c.args.self.now)
     (learnt_as n new ∷ recalled (newest (learnt_of c.args.self.now) c.args.told.amac) c.args.pmac n c.args.self.now)) (first_told c))
 
-pub returns-in_ok-add-in-None-clause-number : goal.returns-in_ok-add-in-None-clause-number
-returns-in_ok-add-in-None-clause-number c =
-    ap Some c.in_ok-add-in-None.ensures.number
-    ∙ sym (ap (λ b. cond b None (Some (length c.args.self.now + 1))) (first_told c))
+pub returns-in_ok-add-in-None-clause-new : goal.returns-in_ok-add-in-None-clause-new
+returns-in_ok-add-in-None-clause-new c = sym (ap not (first_told c))

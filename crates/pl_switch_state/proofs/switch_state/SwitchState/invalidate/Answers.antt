@@ -1,7 +1,7 @@
 use Rattle.std.proofs.Common.{◌∙◌, ap}
 use Rattle.pl_node.specs.SwitchViews.{SwitchView}
 use Rattle.pl_layouts.specs.Placement.{is_known}
-use Rattle.pl_switch_rule.specs.Granting.{granted}
+use Rattle.pl_switch_rule.specs.Granting.{held_here}
 use Rattle.pl_switch_rule.specs.Messages.{invalidates}
 use Rattle.pl_switch_state.proofs.Agreeing.{may_be}
 use Rattle.pl_switch_state.proofs.Tables.{granted_edge, same_address_table_at, same_parts, taken_by_table}
@@ -18,7 +18,7 @@ returns-clause-taken c =
     let inside = c.self.inside in
     let after = c.invalidate.new.self in
     taken_by_table c.args.self.now inside.ports inside.proposer inside.holder inside.edge after inside.avoid inside.parts.entries
-    (λ u. invalidates u c.args.old c.args.to (granted u c.args.old)) c.args.out.now c.invalidate.new.out c.invalidate.result
+    (λ u. invalidates u c.args.old c.args.to (held_here u c.args.old)) c.args.out.now c.invalidate.new.out c.invalidate.result
     c.self.view_is c.self.invariant.address_table
     (same_address_table_at inside.edge after inside.ports.place (record { k = c.invalidate.ensures.k; place = c.invalidate.ensures.place }) c.self.invariant.address_table)
     (may_be inside.edge.address_table inside.ports.place c.self.invariant.address_table

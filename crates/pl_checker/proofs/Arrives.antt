@@ -21,9 +21,9 @@ use Rattle.pl_journal.specs.Causes.{goes_to_group}
 use Rattle.pl_journal.specs.Flights.{addressee, is_flying, leg, root, root_arrived_at}
 use Rattle.pl_journal.specs.Lossy.{ArrivesByAddress, ArrivesByGroup, EndsAt, Unaltered, UnalteredFrom, is_member, is_root_there, is_same_place, mac_of_host}
 use Rattle.pl_past.specs.Kept.{kept}
-use Rattle.pl_checker.specs.declared.row.Row.{Row}
-use Rattle.pl_checker.specs.Frames.{IsRow, source_of_host}
-use Rattle.pl_checker.specs.Legs.{switches_of}
+use Rattle.pl_past_tables.specs.declared.row.Row.{Row}
+use Rattle.pl_past_tables.specs.Frames.{IsRow, source_of_host}
+use Rattle.pl_past_tables.specs.Legs.{switches_of}
 use Rattle.pl_checker.specs.Past.{MayFollow}
 
 pub none_arrives : (plan : Plan) (past : List Entry) (id : ℕ) (h : HostNo) (f : List ℕ) → is_flying past id ≡ false →

@@ -12,10 +12,10 @@ use Rattle.pl_journal.specs.Flights.{begun, is_flying}
 use Rattle.pl_journal.specs.Lossy.{RunTo}
 use Rattle.pl_past.specs.Kept.{first_kept, kept}
 use Rattle.pl_past.proofs.Exports.{when_it_is_copied, when_it_is_made, when_it_is_sent}
-use Rattle.pl_checker.specs.declared.row.Row.{Row}
-use Rattle.pl_checker.specs.Frames.{IsRow, KeepsFrames}
+use Rattle.pl_past_tables.specs.declared.row.Row.{Row}
+use Rattle.pl_past_tables.specs.Frames.{IsRow, KeepsFrames}
 use Rattle.pl_checker.specs.Past.{MayFollow}
-use Rattle.pl_checker.proofs.Rows.{one_more_row}
+use Rattle.pl_past_tables.proofs.Exports.{one_more_row}
 
 pub zero_is_not_next : (n m : ℕ) → n ≡ 0 → IsTrue false ↔ (n ≡ m + 1)
 zero_is_not_next n m is = (λ t. absurd (false≢true t), λ e. absurd (omega arith))

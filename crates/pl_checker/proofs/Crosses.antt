@@ -16,11 +16,11 @@ use Rattle.pl_past.specs.Kept.{Kept, crossing, entrance, kept}
 use Rattle.pl_past.specs.Links.{live_since}
 use Rattle.pl_past.specs.Legs.{goes_well_by, leads}
 use Rattle.pl_past.proofs.Exports.{goes_well_by_kept, when_it_crosses}
-use Rattle.pl_checker.specs.declared.row.Row.{Row}
-use Rattle.pl_checker.specs.Frames.{IsRow, KeepsFrames}
-use Rattle.pl_checker.specs.Legs.{switches_of}
+use Rattle.pl_past_tables.specs.declared.row.Row.{Row}
+use Rattle.pl_past_tables.specs.Frames.{IsRow, KeepsFrames}
+use Rattle.pl_past_tables.specs.Legs.{switches_of}
 use Rattle.pl_checker.specs.Past.{MayFollow, leads_from}
-use Rattle.pl_checker.proofs.Rows.{one_row}
+use Rattle.pl_past_tables.proofs.Exports.{one_row}
 
 pub none_crosses : (plan : Plan) (past : List Entry) (id : ℕ) (s : SwitchNo) → is_flying past id ≡ false → IsTrue false ↔ MayFollow plan past (Crossed id s)
 none_crosses plan past id s none = (λ t. absurd (false≢true t), λ f. absurd (both_ways (is_flying past id) none f.0))

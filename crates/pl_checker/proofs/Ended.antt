@@ -17,11 +17,11 @@ use Rattle.pl_journal.specs.Flights.{address, addressee, first_of, is_empty, is_
 use Rattle.pl_past.specs.Kept.{ending, is_single, kept}
 use Rattle.pl_past.specs.Moves.{moved_at}
 use Rattle.pl_past.proofs.Exports.{moved_by_numbers, when_it_arrives, when_it_is_dropped, when_it_is_taken}
-use Rattle.pl_checker.specs.declared.row.Row.{Row}
-use Rattle.pl_checker.specs.Frames.{IsRow, KeepsFrames}
-use Rattle.pl_checker.specs.Legs.{switches_of, trail_of}
+use Rattle.pl_past_tables.specs.declared.row.Row.{Row}
+use Rattle.pl_past_tables.specs.Frames.{IsRow, KeepsFrames}
+use Rattle.pl_past_tables.specs.Legs.{switches_of, trail_of}
 use Rattle.pl_checker.specs.Past.{MayFollow}
-use Rattle.pl_checker.proofs.Rows.{one_row}
+use Rattle.pl_past_tables.proofs.Exports.{one_row}
 use Rattle.pl_checker.proofs.Crosses.{empty_by_two}
 
 pub none_taken : (plan : Plan) (past : List Entry) (id : ℕ) (s : SwitchNo) → is_flying past id ≡ false → IsTrue false ↔ MayFollow plan past (Taken id s)

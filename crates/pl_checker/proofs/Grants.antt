@@ -16,11 +16,11 @@ use Rattle.pl_journal.specs.Flights.{address_at, came_in, has_just_crossed, is_f
 use Rattle.pl_journal.specs.Lossy.{RunTo}
 use Rattle.pl_past.specs.Kept.{granting, kept}
 use Rattle.pl_past.proofs.Exports.{when_its_edge_grants}
-use Rattle.pl_checker.specs.declared.row.Row.{Row}
-use Rattle.pl_checker.specs.Frames.{IsRow, KeepsFrames}
-use Rattle.pl_checker.specs.Keys.{edge_port_at}
+use Rattle.pl_past_tables.specs.declared.row.Row.{Row}
+use Rattle.pl_past_tables.specs.Frames.{IsRow, KeepsFrames}
+use Rattle.pl_past_tables.specs.Keys.{edge_port_at}
 use Rattle.pl_checker.specs.Past.{MayFollow}
-use Rattle.pl_checker.proofs.Rows.{no_row, one_row}
+use Rattle.pl_past_tables.proofs.Exports.{no_row, one_row}
 
 module _ (plan : Plan) (past : List Entry) (x : Pmac) (h : HostNo) (e : SwitchNo) (p : ℕ) where
   pub other_port : x.port ≢ p → IsTrue false ↔ MayFollow plan past (Granted x h e p)

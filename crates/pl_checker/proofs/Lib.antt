@@ -1,10 +1,3 @@
-pub mod Said
-pub mod Granted
-pub mod Holding
-pub mod Moving
-pub mod Failing
-pub mod Joining
-pub mod Rows
 pub mod Crosses
 pub mod Begins
 pub mod Redirects
@@ -14,4 +7,3 @@ pub mod Grants
 pub mod Standings
 pub mod Unaltered
 pub mod Quiet
-pub mod ShortLegs

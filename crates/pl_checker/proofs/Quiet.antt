@@ -5,7 +5,7 @@ use Rattle.pl_journal.specs.declared.entry.Entry.{Entry}
 use Rattle.pl_journal.specs.declared.entry.Entry.TheVariants.{Line, Placed, Settled, Skipped, Unsettled}
 use Rattle.pl_checker.specs.declared.past.Past.{Past}
 use Rattle.pl_checker.specs.Past.{IsQuiet, Keeps}
-use Rattle.pl_checker.proofs.Rows.{no_row}
+use Rattle.pl_past_tables.proofs.Exports.{no_row}
 
 abbrev pub after : Past → Past
 after kept = record kept { just = None }

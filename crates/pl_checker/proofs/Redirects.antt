@@ -12,11 +12,11 @@ use Rattle.pl_journal.specs.Flights.{address, is_flying, is_redirected, leg}
 use Rattle.pl_journal.specs.Lossy.{IsNewer, is_turning}
 use Rattle.pl_past.specs.Kept.{kept, redirecting}
 use Rattle.pl_past.proofs.Exports.{when_it_is_redirected}
-use Rattle.pl_checker.specs.declared.row.Row.{Row}
-use Rattle.pl_checker.specs.Frames.{IsRow, KeepsFrames}
-use Rattle.pl_checker.specs.Legs.{switches_of}
+use Rattle.pl_past_tables.specs.declared.row.Row.{Row}
+use Rattle.pl_past_tables.specs.Frames.{IsRow, KeepsFrames}
+use Rattle.pl_past_tables.specs.Legs.{switches_of}
 use Rattle.pl_checker.specs.Past.{MayFollow}
-use Rattle.pl_checker.proofs.Rows.{one_row}
+use Rattle.pl_past_tables.proofs.Exports.{one_row}
 
 pub none_redirected : (plan : Plan) (past : List Entry) (id : ℕ) (old new : Pmac) → is_flying past id ≡ false →
     IsTrue false ↔ MayFollow plan past (Redirected id old new)
@@ -94,10 +94,3 @@ redirected_frames plan text past rows id old new row keeps least most is =
     one_row plan text past (Redirected id old new) rows id row keeps refl least most
     (subst (IsRow text row) (sym (when_it_is_redirected plan past id old new)) is)
     (λ other apart. ne_eqb id other (λ e. apart (sym e)))
-
-pub newer_than : (past : List Entry) (from to : ℕ) (b : Bool) (m n : Option ℕ) → holder past to ≡ holder past from → m ≡ number past from → n ≡ number past to →
-    IsTrue b ↔ IsNewer m n → IsTrue b ↔ ((holder past to ≡ holder past from) × IsNewer (number past from) (number past to))
-newer_than past from to b m n same at_m at_n newer = (
-  λ t. (same, subst (λ o. IsNewer o (number past to)) at_m (subst (IsNewer m) at_n (newer.0 t))),
-  λ both. newer.1 (subst (λ o. IsNewer o n) (sym at_m) (subst (IsNewer (number past from)) (sym at_n) both.1)),
-)

@@ -9,8 +9,8 @@ use Rattle.hex.specs.declared.error.FromHexError.{FromHexError}
 use Rattle.pl_frame.specs.declared.address.Mac.{Mac}
 use Rattle.pl_layouts.specs.Frames.{HasSixBytes, arriving}
 use Rattle.pl_layouts.proofs.Exports.{length-arriving}
-use Rattle.pl_checker.specs.declared.row.Carried.{Carried}
-use Rattle.pl_checker.specs.Frames.{IsCarried}
+use Rattle.pl_past_tables.specs.declared.row.Carried.{Carried}
+use Rattle.pl_past_tables.specs.Frames.{IsCarried}
 
 abbrev got : List ℕ → Result (List ℕ) FromHexError
 got bytes = Ok bytes

@@ -1,9 +1,1 @@
-pub mod Keys
-pub mod Legs
-pub mod Addresses
-pub mod Holders
-pub mod Hosts
-pub mod Links
-pub mod Groups
-pub mod Frames
 pub mod Past

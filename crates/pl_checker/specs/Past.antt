@@ -9,12 +9,12 @@ use Rattle.pl_journal.specs.Flights.{has_just_crossed, is_frame}
 use Rattle.pl_journal.specs.Lossy.{CrossesWell, Needs, RunTo}
 use Rattle.pl_past.specs.Links.{is_live_since, live_since}
 use Rattle.pl_checker.specs.declared.past.Past.{Past}
-use Rattle.pl_checker.specs.Addresses.{KeepsAddresses}
-use Rattle.pl_checker.specs.Frames.{KeepsFrames}
-use Rattle.pl_checker.specs.Groups.{KeepsGroups}
-use Rattle.pl_checker.specs.Holders.{AreFit, KeepsHolders}
-use Rattle.pl_checker.specs.Hosts.{KeepsHosts}
-use Rattle.pl_checker.specs.Links.{KeepsLinks}
+use Rattle.pl_past_tables.specs.Addresses.{KeepsAddresses}
+use Rattle.pl_past_tables.specs.Frames.{KeepsFrames}
+use Rattle.pl_past_tables.specs.Groups.{KeepsGroups}
+use Rattle.pl_past_tables.specs.Holders.{AreFit, KeepsHolders}
+use Rattle.pl_past_tables.specs.Hosts.{KeepsHosts}
+use Rattle.pl_past_tables.specs.Links.{KeepsLinks}
 
 -- the entry may follow those that are past, the newest first
 abbrev pub MayFollow : Plan → List Entry → Entry → Type 0

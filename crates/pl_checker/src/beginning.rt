@@ -8,11 +8,10 @@ ghost use Rattle.pl_journal.specs.declared.entry.Entry.TheVariants.{Copied, Made
 ghost use Rattle.pl_journal.specs.Flights.{begun};
 ghost use Rattle.pl_checker.specs.Past.{Keeps, MayFollow};
 
-use crate::keys::mac_number;
 use crate::past::Past;
-use crate::row::{Carried, Row, destination};
 use pl_frame::Frame;
 use pl_journal::Memory;
+use pl_past_tables::{Carried, Row, destination, mac_number};
 use pl_wiring::{HostNo, SwitchNo, Wiring};
 
 impl Past {

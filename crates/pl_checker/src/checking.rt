@@ -3,10 +3,9 @@ ghost use Rattle.std.specs.Prelude.{◌≡◌, ◌↔◌, ◌+◌, ◌∷◌, Li
 ghost use Rattle.pl_journal.specs.declared.entry.Entry.{Entry};
 ghost use Rattle.pl_checker.specs.Past.{HasDigits, IsCheckable, IsQuiet, Keeps, MayFollow};
 
-use crate::addresses::Grant;
-use crate::keys::Point;
 use crate::past::Past;
 use pl_journal::{Entry, Memory};
+use pl_past_tables::{Grant, Point};
 use pl_wiring::Wiring;
 use std::alloc::Global;
 

@@ -8,16 +8,14 @@ ghost use Rattle.pl_journal.specs.Flights.{if_of_switch};
 ghost use Rattle.pl_past.specs.Kept.{Kept};
 ghost use Rattle.pl_past.specs.Links.{is_live_since, live_since};
 ghost use Rattle.pl_past.specs.Legs.{goes_well_by};
-ghost use Rattle.pl_checker.specs.Frames.{IsRow};
-ghost use Rattle.pl_checker.specs.Hosts.{KeepsHosts};
-ghost use Rattle.pl_checker.specs.Keys.{edge_port_at};
-ghost use Rattle.pl_checker.specs.Links.{KeepsLinks};
+ghost use Rattle.pl_past_tables.specs.Frames.{IsRow};
+ghost use Rattle.pl_past_tables.specs.Hosts.{KeepsHosts};
+ghost use Rattle.pl_past_tables.specs.Keys.{edge_port_at};
+ghost use Rattle.pl_past_tables.specs.Links.{KeepsLinks};
 ghost use Rattle.pl_checker.specs.Past.{Keeps, MayFollow, leads_from};
 
-use crate::keys::Point;
-use crate::links::is_adjacent;
 use crate::past::Past;
-use crate::row::Row;
+use pl_past_tables::{Point, Row, is_adjacent};
 use pl_wiring::{HostNo, SwitchNo, Wiring};
 
 impl Past {

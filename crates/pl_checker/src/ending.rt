@@ -7,20 +7,17 @@ ghost use Rattle.pl_journal.specs.Places.{are_live_there, is_live, is_spent};
 ghost use Rattle.pl_journal.specs.Causes.{CauseShows, has_crossed, has_left, is_left_behind};
 ghost use Rattle.pl_journal.specs.Flights.{addressee, sender};
 ghost use Rattle.pl_past.specs.Kept.{kept};
-ghost use Rattle.pl_checker.specs.Addresses.{KeepsAddresses};
-ghost use Rattle.pl_checker.specs.Frames.{IsRow};
-ghost use Rattle.pl_checker.specs.Holders.{KeepsHolders};
-ghost use Rattle.pl_checker.specs.Keys.{edge_port_at};
-ghost use Rattle.pl_checker.specs.Legs.{switches_of};
+ghost use Rattle.pl_past_tables.specs.Addresses.{KeepsAddresses};
+ghost use Rattle.pl_past_tables.specs.Frames.{IsRow};
+ghost use Rattle.pl_past_tables.specs.Holders.{KeepsHolders};
+ghost use Rattle.pl_past_tables.specs.Keys.{edge_port_at};
+ghost use Rattle.pl_past_tables.specs.Legs.{switches_of};
 ghost use Rattle.pl_checker.specs.Past.{Keeps, MayFollow};
 
-use crate::hosts::is_at;
-use crate::keys::Point;
-use crate::leg::Leg;
 use crate::past::Past;
-use crate::row::Row;
 use pl_journal::Cause;
 use pl_multicast::FLOOD;
+use pl_past_tables::{Leg, Point, Row, is_at};
 use pl_wiring::{HostNo, SwitchNo, Wiring};
 
 impl Past {

@@ -4,10 +4,9 @@ ghost use Rattle.pl_journal.specs.declared.entry.Entry.{Entry};
 ghost use Rattle.pl_journal.specs.declared.entry.Entry.TheVariants.{LinkDown, LinkUp, Moved};
 ghost use Rattle.pl_checker.specs.Past.{Keeps, MayFollow};
 
-use crate::keys::Point;
-use crate::links::is_adjacent;
 use crate::past::Past;
 use pl_journal::Memory;
+use pl_past_tables::{Point, is_adjacent};
 use pl_wiring::{HostNo, SwitchNo, Wiring};
 
 impl Past {

@@ -8,15 +8,13 @@ ghost use Rattle.pl_journal.specs.declared.entry.Entry.{Entry};
 ghost use Rattle.pl_journal.specs.declared.entry.Entry.TheVariants.{Freed, Granted, Registered};
 ghost use Rattle.pl_journal.specs.Flights.{has_just_crossed, is_frame};
 ghost use Rattle.pl_journal.specs.Lossy.{RunTo};
-ghost use Rattle.pl_checker.specs.Addresses.{KeepsAddresses};
-ghost use Rattle.pl_checker.specs.Frames.{KeepsFrames};
+ghost use Rattle.pl_past_tables.specs.Addresses.{KeepsAddresses};
+ghost use Rattle.pl_past_tables.specs.Frames.{KeepsFrames};
 ghost use Rattle.pl_checker.specs.Past.{Keeps, MayFollow};
 
-use crate::addresses::{Addresses, Grant};
-use crate::frames::Frames;
-use crate::keys::{Point, fits, number_of};
 use crate::past::Past;
 use pl_journal::Memory;
+use pl_past_tables::{Addresses, Frames, Grant, Point, fits, number_of};
 use pl_pmac::Pmac;
 use pl_wiring::{HostNo, Wiring};
 

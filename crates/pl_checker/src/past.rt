@@ -1,13 +1,8 @@
 ghost use Rattle.std.specs.Prelude.{[], List, ℕ, IfOk};
 ghost use Rattle.pl_checker.specs.Past.{Keeps};
 
-use crate::addresses::Addresses;
-use crate::frames::Frames;
-use crate::groups::Groups;
-use crate::holders::Holders;
-use crate::hosts::Hosts;
-use crate::links::Links;
 use pl_journal::Memory;
+use pl_past_tables::{Addresses, Frames, Groups, Holders, Hosts, Links};
 use pl_wiring::Wiring;
 use std::alloc::Global;
 

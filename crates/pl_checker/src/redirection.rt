@@ -2,19 +2,15 @@
 ghost use Rattle.std.specs.Prelude.{◌≡◌, ◌↔◌, ◌∷◌, List, ℕ, IsTrue, option_map};
 ghost use Rattle.pl_journal.specs.declared.entry.Entry.{Entry};
 ghost use Rattle.pl_journal.specs.declared.entry.Entry.TheVariants.{Redirected};
-ghost use Rattle.pl_journal.specs.Places.{edge_port, holder, number};
-ghost use Rattle.pl_journal.specs.Lossy.{IsNewer, is_turning};
-ghost use Rattle.pl_checker.specs.Addresses.{KeepsAddresses};
-ghost use Rattle.pl_checker.specs.Keys.{edge_port_at};
-ghost use Rattle.pl_checker.specs.Legs.{switches_of};
+ghost use Rattle.pl_journal.specs.Lossy.{is_turning};
+ghost use Rattle.pl_past_tables.specs.Keys.{edge_port_at};
+ghost use Rattle.pl_past_tables.specs.Legs.{switches_of};
 ghost use Rattle.pl_checker.specs.Past.{Keeps, MayFollow};
 
-use crate::addresses::Addresses;
-use crate::keys::{Point, number_of};
-use crate::leg::Leg;
 use crate::past::Past;
+use pl_past_tables::{Leg, Point, number_of};
 use pl_pmac::Pmac;
-use pl_wiring::{HostNo, Wiring};
+use pl_wiring::Wiring;
 
 impl Past {
     pub(crate) fn may_redirect(&self, wiring: &Wiring, id: u64, old: Pmac, new: Pmac) -> bool
@@ -52,58 +48,6 @@ impl Past {
         };
         self.frames.put(id, row.redirecting(new));
         self.just = None;
-    }
-}
-
-impl Addresses {
-    /// The host that an address was granted to last.
-    pub(crate) fn holder(&self, address: u64) -> Option<HostNo>
-        ensures { (past : List Entry) → KeepsAddresses past self.now → option_map (λ h. h.0) result ≡ holder past address }
-    {
-        match self.grant_of(address) {
-            None => None,
-            Some(grant) => Some(grant.host),
-        }
-    }
-
-    /// The port where an address was granted last.
-    pub(crate) fn point_of(&self, address: u64) -> Option<Point>
-        ensures { (past : List Entry) → KeepsAddresses past self.now → option_map edge_port_at result ≡ edge_port past address }
-    {
-        match self.grant_of(address) {
-            None => None,
-            Some(grant) => Some(grant.point),
-        }
-    }
-
-    // Whether both addresses are of one host, and the second is registered with a larger number.
-    fn is_newer(&self, from: u64, to: u64) -> bool
-        ensures { (past : List Entry) → KeepsAddresses past self.now →
-            (IsTrue result ↔ ((holder past to ≡ holder past from) × IsNewer (number past from) (number past to))) }
-    {
-        if !same_host(self.holder(to), self.holder(from)) {
-            return false;
-        }
-        is_newer(self.number(from), self.number(to))
-    }
-}
-
-fn same_host(a: Option<HostNo>, b: Option<HostNo>) -> bool
-    ensures { IsTrue result ↔ (option_map (λ h. h.0) a ≡ option_map (λ h. h.0) b) }
-{
-    match (a, b) {
-        (None, None) => true,
-        (Some(a), Some(b)) => a.0 == b.0,
-        _ => false,
-    }
-}
-
-fn is_newer(m: Option<u64>, n: Option<u64>) -> bool
-    ensures { IsTrue result ↔ IsNewer m n }
-{
-    match (m, n) {
-        (Some(m), Some(n)) => m < n,
-        _ => false,
     }
 }
 

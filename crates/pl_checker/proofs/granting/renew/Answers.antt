@@ -3,7 +3,7 @@ use Rattle.std.proofs.lemmas.Bool.{both_ways}
 use Rattle.pl_journal.specs.declared.entry.Entry.TheVariants.{Granted}
 use Rattle.pl_journal.specs.Flights.{is_flying}
 use Rattle.pl_past.specs.Kept.{kept}
-use Rattle.pl_checker.specs.Frames.{KeepsFrames}
+use Rattle.pl_past_tables.specs.Frames.{KeepsFrames}
 use Rattle.pl_checker.proofs.Grants.{granted_flies, granted_frames, none_granted}
 use Rattle.pl_checker.proofs.granting.renew.Goals as goal
 

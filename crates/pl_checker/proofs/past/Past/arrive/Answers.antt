@@ -2,7 +2,7 @@ use Rattle.std.proofs.Common.{refl, sym, subst, None}
 use Rattle.std.proofs.lemmas.Bool.{both_ways}
 use Rattle.pl_journal.specs.Flights.{is_flying}
 use Rattle.pl_past.specs.Kept.{kept}
-use Rattle.pl_checker.specs.Frames.{KeepsFrames}
+use Rattle.pl_past_tables.specs.Frames.{KeepsFrames}
 use Rattle.pl_checker.proofs.Arrives.{arrives_nowhere}
 use Rattle.pl_checker.proofs.Ended.{arrived_frames}
 use Rattle.pl_checker.proofs.past.Past.arrive.Goals as goal

@@ -1,6 +1,6 @@
 use Rattle.std.proofs.Common.{None, refl}
 use Rattle.pl_past.specs.Kept.{kept}
-use Rattle.pl_checker.specs.Keys.{edge_port_at}
+use Rattle.pl_past_tables.specs.Keys.{edge_port_at}
 use Rattle.pl_checker.proofs.Arrives.{arrived_before, by_group, group_not_reached, may_not, stands_nowhere}
 use Rattle.pl_checker.proofs.past.Past.arrives_by_group.Goals as goal
 

@@ -1,7 +1,7 @@
 use Rattle.std.proofs.Common.{◌∙◌, ap, sym}
 use Rattle.std.specs.Option.{option_map}
 use Rattle.pl_journal.specs.Causes.{came_in_at_spent_port}
-use Rattle.pl_checker.specs.Keys.{edge_port_at}
+use Rattle.pl_past_tables.specs.Keys.{edge_port_at}
 use Rattle.pl_checker.proofs.Ended.{shows_by}
 use Rattle.pl_checker.proofs.past.Past.came_in_at_spent_port.Goals as goal
 

@@ -2,7 +2,7 @@ use Rattle.std.proofs.Common.{refl, sym, subst}
 use Rattle.std.proofs.lemmas.Bool.{both_ways}
 use Rattle.pl_journal.specs.Flights.{is_flying}
 use Rattle.pl_past.specs.Kept.{kept}
-use Rattle.pl_checker.specs.Frames.{KeepsFrames}
+use Rattle.pl_past_tables.specs.Frames.{KeepsFrames}
 use Rattle.pl_checker.proofs.Ended.{dropped_frames}
 use Rattle.pl_checker.proofs.past.Past.drop_frame.Goals as goal
 

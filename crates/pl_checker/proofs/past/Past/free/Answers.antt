@@ -1,7 +1,7 @@
 use Rattle.std.proofs.Common.{refl, ◌∙◌, ap}
 use Rattle.pl_journal.specs.declared.entry.Entry.TheVariants.{Freed}
 use Rattle.pl_journal.specs.Places.{is_live}
-use Rattle.pl_checker.proofs.Rows.{no_row}
+use Rattle.pl_past_tables.proofs.Exports.{no_row}
 use Rattle.pl_checker.proofs.past.Past.free.Goals as goal
 
 pub returns : goal.returns

@@ -1,5 +1,5 @@
 use Rattle.pl_checker.proofs.Crosses.{well_by_row}
-use Rattle.pl_checker.proofs.Said.{and_else, and_then}
+use Rattle.pl_past_tables.proofs.Exports.{and_else, and_then}
 use Rattle.pl_checker.proofs.past.Past.goes_well.Goals as goal
 
 pub returns-then-good : goal.returns-then-good

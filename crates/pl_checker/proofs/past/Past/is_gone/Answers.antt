@@ -2,7 +2,7 @@ use Rattle.std.proofs.Common.{◌∙◌, ap, ap₂, sym}
 use Rattle.pl_journal.specs.Causes.{has_left}
 use Rattle.pl_journal.specs.Places.{edge_port}
 use Rattle.pl_checker.proofs.Ended.{group_is_gone, host_has_left, sender_has_left}
-use Rattle.pl_checker.proofs.Rows.{group_by_row}
+use Rattle.pl_past_tables.proofs.Exports.{group_by_row}
 use Rattle.pl_checker.proofs.past.Past.is_gone.Goals as goal
 
 pub returns-then-is_some : goal.returns-then-is_some

@@ -1,6 +1,6 @@
 use Rattle.std.proofs.Common.{◌&&◌, ◌∙◌, ap, nat_lt, sym}
 use Rattle.pl_checker.proofs.Ended.{left_behind_by_row}
-use Rattle.pl_checker.proofs.Said.{and_then}
+use Rattle.pl_past_tables.proofs.Exports.{and_then}
 use Rattle.pl_checker.proofs.past.Past.is_left_behind.Goals as goal
 
 pub returns-then-not-is_empty : goal.returns-then-not-is_empty

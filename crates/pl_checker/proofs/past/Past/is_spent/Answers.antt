@@ -1,6 +1,6 @@
 use Rattle.std.proofs.Common.{◌∙◌, ◌&&◌, ap, sym}
 use Rattle.pl_journal.specs.Places.{are_live_there, is_live}
-use Rattle.pl_checker.specs.Keys.{edge_port_at}
+use Rattle.pl_past_tables.specs.Keys.{edge_port_at}
 use Rattle.pl_checker.proofs.past.Past.is_spent.Goals as goal
 
 pub returns-then-not-is_spent : goal.returns-then-not-is_spent

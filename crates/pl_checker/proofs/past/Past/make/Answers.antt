@@ -1,6 +1,6 @@
 use Rattle.std.proofs.Common.{refl, sym, ap, subst, ◌∙◌}
 use Rattle.pl_layouts.specs.Frames.{mac_number}
-use Rattle.pl_checker.specs.Frames.{KeepsFrames}
+use Rattle.pl_past_tables.specs.Frames.{KeepsFrames}
 use Rattle.pl_checker.proofs.Begins.{made_frames}
 use Rattle.pl_checker.proofs.past.Past.make.Goals as goal
 

@@ -1,6 +1,6 @@
 use Rattle.std.proofs.Common.{sym, ◌∙◌}
 use Rattle.pl_checker.proofs.Arrives.{group_arrives, none_arrives, one_arrives}
-use Rattle.pl_checker.proofs.Rows.{group_by_row}
+use Rattle.pl_past_tables.proofs.Exports.{group_by_row}
 use Rattle.pl_checker.proofs.past.Past.may_arrive.Goals as goal
 
 pub returns-in_default : goal.returns-in_default

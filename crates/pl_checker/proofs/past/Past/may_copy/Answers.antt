@@ -1,7 +1,7 @@
 use Rattle.std.proofs.Common.{◌∙◌, sym}
 use Rattle.pl_checker.proofs.Begins.{group_copied, none_copied, one_not_copied}
-use Rattle.pl_checker.proofs.Rows.{group_by_row, none_is_not_some, some_is_not_none}
-use Rattle.pl_checker.proofs.Said.{none_by}
+use Rattle.pl_past_tables.proofs.Exports.{group_by_row, none_is_not_some, some_is_not_none}
+use Rattle.pl_past_tables.proofs.Exports.{none_by}
 use Rattle.pl_checker.proofs.past.Past.may_copy.Goals as goal
 
 pub returns-in_default : goal.returns-in_default

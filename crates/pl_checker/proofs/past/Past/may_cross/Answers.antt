@@ -1,6 +1,6 @@
 use Rattle.std.proofs.Common.{sym, ◌∙◌}
 use Rattle.pl_checker.proofs.Crosses.{group_crosses, none_crosses, one_crosses}
-use Rattle.pl_checker.proofs.Rows.{group_by_row}
+use Rattle.pl_past_tables.proofs.Exports.{group_by_row}
 use Rattle.pl_checker.proofs.past.Past.may_cross.Goals as goal
 
 pub returns-in_default : goal.returns-in_default

@@ -4,7 +4,7 @@ use Rattle.pl_layouts.specs.Frames.{mac_number}
 use Rattle.pl_layouts.specs.Memberships.{group_of}
 use Rattle.pl_journal.specs.Places.{EdgePort, edge_port, is_at}
 use Rattle.pl_journal.specs.Lossy.{is_member}
-use Rattle.pl_checker.specs.Keys.{edge_port_at}
+use Rattle.pl_past_tables.specs.Keys.{edge_port_at}
 use Rattle.pl_checker.proofs.past.Past.may_receive.Goals as goal
 
 pub returns-then-is_at : goal.returns-then-is_at

@@ -1,6 +1,6 @@
 use Rattle.pl_checker.proofs.Ended.{none_taken, not_takeable, of_no_host, taken_alone}
 use Rattle.std.proofs.Common.{◌∙◌, sym}
-use Rattle.pl_checker.proofs.Said.{none_by}
+use Rattle.pl_past_tables.proofs.Exports.{none_by}
 use Rattle.pl_checker.proofs.past.Past.may_take.Goals as goal
 
 pub returns-in_default : goal.returns-in_default

@@ -1,5 +1,5 @@
 use Rattle.std.proofs.Common.{refl}
-use Rattle.pl_checker.proofs.Rows.{no_row}
+use Rattle.pl_past_tables.proofs.Exports.{no_row}
 use Rattle.pl_checker.proofs.past.Past.repair.Goals as goal
 
 pub returns : goal.returns

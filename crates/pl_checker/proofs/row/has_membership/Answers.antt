@@ -1,5 +1,0 @@
-use Rattle.std.proofs.Common.{◌∙◌}
-use Rattle.pl_checker.proofs.row.has_membership.Goals as goal
-
-pub returns : goal.returns
-returns c = c.is_some.ensures ∙ c.read_igmp.ensures.read c.args.bytes.now c.view_of-view.ensures

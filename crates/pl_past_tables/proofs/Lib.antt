@@ -1,0 +1,9 @@
+pub mod Said
+pub mod Granted
+pub mod Holding
+pub mod Moving
+pub mod Failing
+pub mod Joining
+pub mod Rows
+pub mod ShortLegs
+pub mod Exports

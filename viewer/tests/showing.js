@@ -12,7 +12,7 @@ const RULES = [
     ["examples/four-hosts", 4, "`ComesAtSwitch`", "crates/pl_world/specs/WorldRule.antt", ""],
     ["examples/four-hosts", 10, "by `grants_next`", "crates/pl_switch_rule/specs/Granting.antt", ""],
     ["tests/fabric/link-fails-with-frames", 104, "`goes_out`, `link_failed`", "crates/pl_world/specs/LinksAndMoves.antt", "Look at the last `linkdown`"],
-    ["viewer/tests/runs/address-given-again", 731, "`is_live` of that address until then", "crates/pl_journal/specs/Places.antt", ""],
+    ["viewer/tests/runs/address-given-again", 731, "by `frees`", "crates/pl_switch_rule/specs/Messages.antt", ""],
     ["tests/fabric/group", 133, "`no_way`", "crates/pl_switch_rule/specs/GroupForwarding.antt", "Look at the `join`"],
 ];
 

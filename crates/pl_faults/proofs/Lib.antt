@@ -12,5 +12,6 @@ pub mod Within
 pub mod Missing
 pub mod Touched
 pub mod Filled
+pub mod Apart
 pub mod Shared
 pub mod Exports

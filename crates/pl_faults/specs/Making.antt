@@ -22,3 +22,7 @@ with_placed edges (Some e) = edges ++ e ∷ []
 -- all for which s avoids one more neighbour
 unfoldable pub with_neighbour : Told → SwitchId → List Avoided → SwitchId → List Avoided
 with_neighbour told s list u = if is_above told s u then fold (insert_key avoided_cmp) list (avoided_at told s u) else list
+
+-- what an edge switch that a neighbour misses stands for
+abbrev pub entry_at : SwitchId → Edge → Avoided
+entry_at u e = (u, e.pod, e.position)

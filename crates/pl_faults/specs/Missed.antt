@@ -1,19 +1,19 @@
 -- The placed edge switches to which a switch does not lead on, and what the switches below it avoid for them.
-use Rattle.std.specs.Prelude.{◌≡◌, ◌==◌, ◌&&◌, ℕ, Bool, true, false, not, List, [], ◌∷◌, ◌++◌, if◌then◌else◌, Option, Some, None, is_some, map, unwrap_or}
+use Rattle.std.specs.Prelude.{◌≡◌, ◌==◌, ◌&&◌, ℕ, Bool, true, false, not, List, [], ◌∷◌, ◌++◌, if◌then◌else◌, Option, Some, None, Contains, fold, map, unwrap_or}
 use Rattle.std.specs.List.{filter}
 use Rattle.std.specs.BTreeSet.{insert_key}
 use Rattle.pl_frame.specs.declared.address.SwitchId.{SwitchId}
 use Rattle.pl_layouts.specs.declared.place.Place.{Place}
 use Rattle.pl_layouts.specs.Equality.{same_switch}
 use Rattle.pl_layouts.specs.Placement.{is_known}
-use Rattle.pl_node.specs.ManagerViews.{Told, id_cmp, place_of, placed_edges, value_at}
-use Rattle.pl_node.specs.AvoidLists.{avoided_cmp}
-use Rattle.pl_node.specs.AvoidRows.{number_of}
+use Rattle.pl_node.specs.ManagerViews.{Told, id_cmp, neighbours, place_of, placed_edges, value_at}
+use Rattle.pl_node.specs.AvoidLists.{avoided_cmp, is_level_above}
 use Rattle.pl_faults.specs.declared.edges.Edge.{Edge}
 use Rattle.pl_faults.specs.declared.leading.Leading.{Leading}
 use Rattle.pl_faults.specs.declared.reach.Reach.{Reach}
 use Rattle.pl_faults.specs.Listed.{AreHeard, is_in}
-use Rattle.pl_faults.specs.Making.{Avoided, placed_as}
+use Rattle.pl_faults.specs.Making.{Avoided, entry_at, placed_as}
+use Rattle.pl_faults.specs.Numbered.{has_bit_at, has_number}
 use Rattle.pl_faults.specs.Rows.{IsReach, leads_on}
 
 -- for each switch those that it misses
@@ -78,18 +78,13 @@ is_avoided place s e = not (same_switch e.switch s) && not (sends_down place e.p
 abbrev pub avoided_of : Place → SwitchId → SwitchId → List Edge → List Avoided
 avoided_of place s u es = map (λ e. (u, e.pod, e.position)) (filter (is_avoided place s) es)
 
--- whether a number is that of a bit
-abbrev pub is_number : ℕ → Option ℕ → Bool
-is_number n None = false
-is_number n (Some m) = n == m
-
--- whether s at this place avoids a neighbour above for an edge switch whose bit has this number
+-- the bit of an edge switch has this number, and s at this place avoids a neighbour above for it
 abbrev pub is_numbered : Place → SwitchId → ℕ → Edge → Bool
-is_numbered place s n e = is_avoided place s e && is_number n (number_of e.pod e.position)
+is_numbered place s n e = is_avoided place s e && has_bit_at n e
 
--- the same where it has no bit
+-- whether s at this place avoids a neighbour above for an edge switch that has no bit
 abbrev pub is_other : Place → SwitchId → Edge → Bool
-is_other place s e = not (is_some (number_of e.pod e.position)) && is_avoided place s e
+is_other place s e = not (has_number e) && is_avoided place s e
 
 -- one more that u misses and that has no bit
 abbrev pub with_other : Place → SwitchId → SwitchId → List Avoided → Edge → List Avoided
@@ -98,3 +93,24 @@ with_other place s u list e = if is_other place s e then insert_key avoided_cmp 
 -- one more that is led to or not
 abbrev pub with_unled : Bool → List Edge → Edge → List Edge
 with_unled leads missed e = if not leads then missed ++ e ∷ [] else missed
+
+-- whether an edge switch is at this place
+abbrev pub is_there : Edge → Edge → Bool
+is_there e f = (e.pod == f.pod) && (e.position == f.position)
+
+-- no two of them are at one place
+pub record AreApart (es : List Edge) : Type 0 where
+  pub each : (e f : Edge) → Contains es e → Contains es f → is_there e f ≡ true → e ≡ f
+
+-- all that u misses, if it is above this level
+abbrev pub with_above : Told → Misses → Option ℕ → List Avoided → SwitchId → List Avoided
+with_above told misses level list u =
+    if is_level_above level (place_of told u).level then fold (insert_key avoided_cmp) list (map (entry_at u) (missed_in misses u)) else list
+
+-- the same of all neighbours of a switch
+abbrev pub missed_above : Told → Misses → Option ℕ → SwitchId → List Avoided
+missed_above told misses level s = fold (with_above told misses level) [] (neighbours told s)
+
+-- one more that has no bit
+abbrev pub with_unnumbered : SwitchId → List Avoided → Edge → List Avoided
+with_unnumbered u list e = if not (has_number e) then insert_key avoided_cmp list (entry_at u e) else list

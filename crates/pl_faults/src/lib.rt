@@ -12,6 +12,7 @@ mod lists;
 mod making;
 mod matrix;
 mod missed;
+mod missed_edges;
 mod reach;
 mod renewing;
 mod row;

@@ -1,15 +1,16 @@
-ghost use Rattle.std.specs.Prelude.{◌≡◌, [], ℕ, ◌<◌, ◌||◌, IfOk, IfSome, IsTrue, OnOk, fold};
+ghost use Rattle.std.specs.Prelude.{◌≡◌, [], ℕ, ◌||◌, if◌then◌else◌, IfOk, IsTrue, OnOk, fold, map};
 ghost use Rattle.std.specs.BTreeSet.{insert_key};
 ghost use Rattle.std.specs.List.{list_any};
 ghost use Rattle.pl_bits.specs.Bits.{has_bit};
 ghost use Rattle.pl_node.specs.AvoidLists.{avoid_list, avoided_cmp, is_level_above};
 ghost use Rattle.pl_node.specs.ManagerViews.{place_of};
-ghost use Rattle.pl_faults.specs.Making.{with_neighbour};
-ghost use Rattle.pl_faults.specs.Missed.{IsLeading, avoided_of, is_avoided, is_number, is_numbered, is_other, sends_down, with_other};
+ghost use Rattle.pl_faults.specs.Making.{entry_at, with_neighbour};
+ghost use Rattle.pl_faults.specs.Missed.{IsLeading, avoided_of, is_avoided, is_numbered, is_other, missed_above, sends_down, with_above, with_other, with_unnumbered};
 
-use crate::edges::Edge;
+use crate::edges::{Edge, with_number};
 use crate::leading::Leading;
-use crate::missed::missed_in;
+use crate::missed::{Misses, missed_in, missed_of};
+use crate::missed_edges::Missed;
 use crate::reach::{has_level, has_pod};
 use pl_frame::SwitchId;
 use pl_node::{AvoidBits, AvoidList, AvoidRow, Memory, Place};
@@ -111,18 +112,7 @@ fn with_edge(row: AvoidRow, edge: &Edge, place: Place, switch: SwitchId) -> Avoi
     if !is_avoided(place, switch, edge) {
         return row;
     }
-    with_number(row, AvoidRow::number_of(edge.pod, edge.position))
-}
-
-fn with_number(row: AvoidRow, number: Option<usize>) -> AvoidRow
-    requires { IfSome number (λ n. n < 288) }
-    ensures neighbour { result.neighbour ≡ row.neighbour }
-    ensures bits { (n : ℕ) → has_bit result.words n ≡ (is_number n number || has_bit row.words n) }
-{
-    match number {
-        Some(number) => row.with(number),
-        None => row,
-    }
+    with_number(row, edge.number())
 }
 
 // Puts in those that have no bit.
@@ -160,7 +150,7 @@ fn add_other(
 fn is_other(place: Place, switch: SwitchId, edge: &Edge) -> bool
     ensures { result ≡ is_other place switch edge.now }
 {
-    AvoidRow::number_of(edge.pod, edge.position).is_none() && is_avoided(place, switch, edge)
+    !edge.has_number() && is_avoided(place, switch, edge)
 }
 
 // Whether a switch at this place avoids a neighbour for an edge switch that the neighbour misses.
@@ -185,4 +175,87 @@ fn sends_down(place: Place, pod: u16) -> bool
     ensures { result ≡ sends_down place pod }
 {
     has_level(place, 1) && has_pod(place, pod)
+}
+
+/// All that the neighbours of a switch miss that are above this level.
+pub(crate) fn missed_above(
+    alloc: Global,
+    reports: &Reports,
+    misses: &Misses,
+    level: Option<u8>,
+    switch: SwitchId,
+) -> Result<AvoidList, Memory>
+    ensures { IfOk result (λ list. list ≡ missed_above reports.now misses.now.entries level switch) }
+{
+    let mut bits = AvoidBits::new(alloc);
+    for neighbour in reports.neighbours(switch) {
+        add_above(&mut bits, reports, misses, level, *neighbour)?;
+    }
+    let list = AvoidList::of(alloc, bits)?;
+    Ok(list)
+}
+
+// Puts in what a neighbour misses, if it is above this level.
+fn add_above(
+    list: &mut AvoidBits,
+    reports: &Reports,
+    misses: &Misses,
+    level: Option<u8>,
+    neighbour: SwitchId,
+) -> Result<(), Memory>
+    ensures { OnOk result (list.new ≡ with_above reports.now misses.now.entries level list.old neighbour) }
+{
+    match missed_of(misses, neighbour) {
+        Some(missed) => {
+            add_if_above(list, reports, level, missed, neighbour)?;
+            Ok(())
+        }
+        None => Ok(()),
+    }
+}
+
+fn add_if_above(
+    list: &mut AvoidBits,
+    reports: &Reports,
+    level: Option<u8>,
+    missed: &Missed,
+    neighbour: SwitchId,
+) -> Result<(), Memory>
+    ensures { OnOk result (list.new ≡ (if is_level_above level (place_of reports.now neighbour).level
+        then fold (insert_key avoided_cmp) list.old (map (entry_at neighbour) missed.now) else list.old)) }
+{
+    if is_level_above(level, reports.place_of(neighbour).level) {
+        add_all(list, missed, neighbour)?;
+    }
+    Ok(())
+}
+
+// Puts in all that a neighbour misses: its bits, and one by one those that have none.
+fn add_all(list: &mut AvoidBits, missed: &Missed, neighbour: SwitchId) -> Result<(), Memory>
+    ensures { OnOk result (list.new ≡ fold (insert_key avoided_cmp) list.old (map (entry_at neighbour) missed.now)) }
+{
+    list.insert_row(missed.row(neighbour))?;
+    if missed.has_all() {
+        return Ok(());
+    }
+    add_unnumbered(list, missed.as_slice(), neighbour)?;
+    Ok(())
+}
+
+fn add_unnumbered(list: &mut AvoidBits, missed: &[Edge], neighbour: SwitchId) -> Result<(), Memory>
+    ensures { OnOk result (list.new ≡ fold (with_unnumbered neighbour) list.old missed.now) }
+{
+    for edge in missed {
+        put_unnumbered(list, edge, neighbour)?;
+    }
+    Ok(())
+}
+
+fn put_unnumbered(list: &mut AvoidBits, edge: &Edge, neighbour: SwitchId) -> Result<(), Memory>
+    ensures { OnOk result (list.new ≡ with_unnumbered neighbour list.old edge.now) }
+{
+    if !edge.has_number() {
+        list.insert((neighbour, edge.pod, edge.position))?;
+    }
+    Ok(())
 }

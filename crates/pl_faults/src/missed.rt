@@ -1,44 +1,35 @@
-ghost use Rattle.std.specs.Prelude.{◌≡◌, [], IfOk, IsTrue, OnOk, false, true, if◌then◌else◌};
+ghost use Rattle.std.specs.Prelude.{◌≡◌, ◌&&◌, ℕ, [], IfOk, IsTrue, OnOk, false, is_some, true, if◌then◌else◌, unwrap_or};
+ghost use Rattle.std.specs.List.{list_all, list_any};
+ghost use Rattle.std.specs.Option.{option_copied};
+ghost use Rattle.pl_bits.specs.Bits.{has_bit};
 ghost use Rattle.pl_faults.specs.Listed.{is_in};
 ghost use Rattle.pl_frame.specs.declared.address.SwitchId.{SwitchId};
 ghost use Rattle.pl_node.specs.ManagerViews.{id_cmp, place_of};
 ghost use Rattle.std.specs.BTreeMap.{is_at};
 ghost use Rattle.pl_faults.specs.Missed.{AreMissesRenewed, is_upper, missed_at, missed_by, missed_in, with_unled};
+ghost use Rattle.pl_faults.specs.Numbered.{has_bit_at, has_number};
 ghost use Rattle.pl_faults.specs.Rows.{IsReach};
 
-use crate::edges::Edge;
+use crate::edges::{Edge, with_number};
+use crate::missed_edges::Missed;
 use crate::reach::{Reach, leads_at};
 use pl_frame::SwitchId;
-use pl_node::{Memory, Place, SwitchList};
+use pl_node::{AvoidRow, Memory, Place, SwitchList};
 use pl_reports::Reports;
 use std::alloc::Global;
 use std::collections::BTreeMap;
-use std::marker::Model;
 
 /// For each switch the placed edge switches to which it does not lead on.
 pub(crate) type Misses = BTreeMap<SwitchId, Missed>;
 
-/// Placed edge switches, by rising id. Contracts see the list of them.
-#[derive(Debug, Drop)]
-pub(crate) struct Missed {
-    edges: Vec<Edge>,
-}
-
-impl Model for Missed {
-    ghost use Rattle.std.specs.Prelude.{List};
-    ghost use Rattle.pl_faults.specs.declared.edges.Edge.{Edge};
-
-    ghost Value = { List Edge };
-
-    ghost view = { λ missed. missed.edges.items };
-}
-
 impl Missed {
-    fn none(alloc: Global) -> Missed
+    fn none(alloc: Global, switch: SwitchId) -> Missed
         ensures { result ≡ [] }
     {
         Missed {
             edges: Vec::new(alloc),
+            bits: AvoidRow::of(switch),
+            is_all: true,
         }
     }
 
@@ -46,9 +37,13 @@ impl Missed {
     fn add(&mut self, edge: Edge, leads: bool) -> Result<(), Memory>
         ensures { OnOk result (self.new ≡ with_unled leads self.old edge) }
     {
-        if !leads {
-            self.edges.push(edge)?;
+        if leads {
+            return Ok(());
         }
+        let number = edge.number();
+        self.edges.push(edge)?;
+        self.bits = with_number(self.bits, number);
+        self.is_all = are_all(self.is_all, number);
         Ok(())
     }
 
@@ -58,11 +53,37 @@ impl Missed {
         self.edges.is_empty()
     }
 
-    fn as_slice(&self) -> &[Edge]
+    /// All of them.
+    pub(crate) fn as_slice(&self) -> &[Edge]
         ensures { result.now ≡ self.now }
     {
         self.edges.as_slice()
     }
+
+    /// The bits of those that have one, as a row of a neighbour.
+    pub(crate) fn row(&self, neighbour: SwitchId) -> AvoidRow
+        ensures neighbour { result.neighbour ≡ neighbour }
+        ensures bits { (n : ℕ) → has_bit result.words n ≡ list_any (has_bit_at n) self.now }
+    {
+        AvoidRow {
+            neighbour,
+            words: self.bits.words,
+        }
+    }
+
+    /// Whether each of them has a bit.
+    pub(crate) fn has_all(&self) -> bool
+        ensures { result ≡ list_all has_number self.now }
+    {
+        self.is_all
+    }
+}
+
+// Whether each has a bit, with one more that may have one.
+fn are_all(is_all: bool, number: Option<usize>) -> bool
+    ensures { result ≡ (is_all && is_some number) }
+{
+    is_all && number.is_some()
 }
 
 /// Puts down anew what these switches miss. Answers those that miss others than before.
@@ -136,7 +157,7 @@ fn missed_at(
         missed ≡ missed_at reports.now edges.now switch) }
 {
     if !is_upper(reports.place_of(switch)) {
-        return Ok(Missed::none(alloc));
+        return Ok(Missed::none(alloc, switch));
     }
     let missed = missed_by(alloc, reports, edges, reach, switch)?;
     Ok(missed)
@@ -157,7 +178,7 @@ fn missed_by(
     let down = reach.down(switch);
     let core = reach.core(switch);
     let up = reach.up(switch);
-    let mut missed = Missed::none(alloc);
+    let mut missed = Missed::none(alloc, switch);
     for i in 0..edges.len() {
         let edge = edges[i];
         let leads = leads_at(place, down, core, up, &edge, i);
@@ -174,6 +195,13 @@ fn is_upper(place: Place) -> bool
         Some(level) => level != 0,
         None => false,
     }
+}
+
+/// Those that a switch misses, if it misses any.
+pub(crate) fn missed_of(misses: &Misses, switch: SwitchId) -> Option<&Missed>
+    ensures { unwrap_or (option_copied result) [] ≡ missed_in misses.now.entries switch }
+{
+    misses.get(&switch)
 }
 
 /// Those that a switch misses.

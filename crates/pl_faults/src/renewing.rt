@@ -4,8 +4,9 @@ ghost use Rattle.pl_node.specs.ManagerViews.{Told};
 ghost use Rattle.pl_faults.specs.Kept.{AreTablesOf, AreTablesRenewed, IsKeptUp, IsLinkWord, IsListRenewed, IsPlaceWord};
 ghost use Rattle.pl_faults.specs.Listed.{is_in, with_below};
 ghost use Rattle.pl_faults.specs.Missed.{IsLeading};
-ghost use Rattle.pl_faults.specs.Sharing.{MayBeShared};
+ghost use Rattle.pl_faults.specs.Sharing.{CanShare};
 
+use crate::edges::are_apart;
 use crate::leading::{is_none_placed, link_leading, place_leading};
 use crate::listed::{put_all_below, with_hearers};
 use crate::sharing::{Shared, list_after};
@@ -68,9 +69,10 @@ impl Tables {
         ensures { OnOk result (IsLeading self.old.reports self.old.leading →
             AreTablesRenewed (is_in asked.now) self.old self.new) }
     {
+        let apart = are_apart(self.leading.edges.as_slice());
         let mut last = None;
         for switch in asked {
-            last = self.renew_list(*switch, last)?;
+            last = self.renew_list(apart, *switch, last)?;
         }
         Ok(())
     }
@@ -78,15 +80,23 @@ impl Tables {
     // The answer is the last list that others may have.
     fn renew_list(
         &mut self,
+        apart: bool,
         switch: SwitchId,
         last: Option<Shared>,
     ) -> Result<Option<Shared>, Memory>
-        ensures list { OnOk result (IsLeading self.old.reports self.old.leading →
-            MayBeShared self.old.reports self.old.leading last → IsListRenewed switch (avoid_list self.old.reports switch) self.old self.new) }
-        ensures next { IfOk result (λ next. IsLeading self.old.reports self.old.leading →
-            MayBeShared self.old.reports self.old.leading last → MayBeShared self.old.reports self.old.leading next) }
+        ensures list { OnOk result (CanShare self.old.reports self.old.leading apart last →
+            IsListRenewed switch (avoid_list self.old.reports switch) self.old self.new) }
+        ensures next { IfOk result (λ next. CanShare self.old.reports self.old.leading apart last →
+            CanShare self.old.reports self.old.leading apart next) }
     {
-        let (list, next) = list_after(self.alloc, &self.reports, &self.leading, switch, last)?;
+        let (list, next) = list_after(
+            self.alloc,
+            &self.reports,
+            &self.leading,
+            apart,
+            switch,
+            last,
+        )?;
         self.renew(switch, list)?;
         Ok(next)
     }

@@ -1,5 +1,5 @@
 -- What an avoid list that is kept in rows has, and how it gains an entry.
-use Rattle.std.proofs.Common.{Result, Ok, Err, OnOk, IsTrue, take, ◌≡◌, ℕ, zero, suc, ◌+◌, ◌-◌, ◌*◌, ◌/◌, ◌%◌, ◌^◌, ◌<◌, ◌≤◌, min, ◌≢◌, ◌==◌, ◌&&◌, ◌||◌, ◌↔◌, not, nat_lt, Bool, true, false, cond, List, [], ◌∷◌, ◌++◌, map, length, get_or, set, Option, Some, None, refl, sym, ap, ◌∙◌, subst, inl, inr, arith}
+use Rattle.std.proofs.Common.{Result, Ok, Err, OnOk, IsTrue, take, ◌≡◌, ℕ, zero, suc, ◌+◌, ◌-◌, ◌*◌, ◌/◌, ◌%◌, ◌^◌, ◌<◌, min, ◌==◌, ◌&&◌, ◌||◌, ◌↔◌, not, Bool, true, false, cond, List, [], ◌∷◌, ◌++◌, map, length, get_or, set, Option, Some, None, refl, sym, ap, ◌∙◌, subst, inl, inr, arith}
 use Rattle.std.specs.Prelude.{fold, bit_and, slice_index}
 use Rattle.std.specs.Int.{bit_at, bit_not, w64}
 use Rattle.std.specs.Bool.{Decides}
@@ -9,11 +9,10 @@ use Rattle.std.specs.List.Sorted.{IsStrictlySortedBy}
 use Rattle.std.specs.Ordering.{is_eq}
 use Rattle.std.specs.Cmp.{Equal-is}
 use Rattle.std.specs.BTreeSet.{insert_key}
-use Rattle.std.proofs.lemmas.Bool.{and_from, and_parts, cases_eq, cases_lt, eqb-true, eq-eqb, ne_eqb, false≢true, false_from_ne_true, lt-ltb, le-ltb, ltb-true, or_left, or_right, or_cases}
+use Rattle.std.proofs.lemmas.Bool.{and_from, and_parts, cases_eq, cases_lt, eqb-true, eq-eqb, ne_eqb, false≢true, lt-ltb, le-ltb, or_left, or_right, or_cases}
 use Rattle.std.proofs.lemmas.Bool.Decides.{Decides-and, Decides-eqb}
 use Rattle.std.proofs.lemmas.Cmp.{tied_itself}
 use Rattle.std.proofs.lemmas.List.Folds.{list_any-append, list_any_at, list_any_more}
-use Rattle.std.proofs.lemmas.Nat.{div-mul-add, mod-mul-add}
 use Rattle.std.proofs.lemmas.Nat.Bits.{bit_at-lt, bit_at_and, bit_at_not}
 use Rattle.std.proofs.lemmas.Slice.Eq.{slice_eq-Decides}
 use Rattle.pl_bits.specs.Bits.{has_bit, is_set}
@@ -22,7 +21,7 @@ use Rattle.pl_frame.specs.declared.address.SwitchId.{SwitchId}
 use Rattle.pl_layouts.specs.Equality.{same_switch}
 use Rattle.pl_node.specs.ManagerViews.{in_order}
 use Rattle.pl_node.specs.AvoidLists.{avoided_cmp, is_for}
-use Rattle.pl_node.specs.AvoidRows.{AreListed, AreSameBeyond, Gains, entries_of, entry_of, is_listed, listed_in, number_of, row_has, rows_have, some_has}
+use Rattle.pl_node.specs.AvoidRows.{AreListed, AreSameBeyond, Gains, entries_of, entry_of, is_listed, listed_in, number_of, row_has, rows_have, some_has, stands_for}
 use Rattle.pl_node.specs.declared.avoid_row.AvoidRow.{AvoidRow}
 use Rattle.pl_node.proofs.Among.{among_filter, among_filtered, among_in_order, among_insert, among_inserted, among_kept, among_map, among_mapped, among_ordered, among_range, any_among, IsAmong, member_passes, rising_in_order, rising_inserted}
 use Rattle.pl_node.proofs.AvoidOrder.{avoided_exact, avoided_total}
@@ -101,7 +100,7 @@ of_number pod position n e = elim (cases_lt pod 24) [
 ]
 
 -- what a row has
-row_lists : (x : Avoided) (row : AvoidRow) → is_listed x (entries_of row) ≡ rows_have x.0 (number_of x.1 x.2) (row ∷ [])
+pub row_lists : (x : Avoided) (row : AvoidRow) → is_listed x (entries_of row) ≡ rows_have x.0 (number_of x.1 x.2) (row ∷ [])
 row_lists x row = same_test (is_listed x (entries_of row)) (rows_have x.0 (number_of x.1 x.2) (row ∷ [])) there back
   where
     bits : List ℕ
@@ -289,21 +288,18 @@ row_set rows i number neighbour old new within of is same bits u n =
     by false b c = refl
 
 -- ---- what is left over
-abbrev pub row_test : AvoidRow → Avoided → ℕ → Bool
-row_test row x n = has_bit row.words n && is_eq (avoided_cmp x (entry_of row.neighbour n))
-
 any_of_bits : (row : AvoidRow) (x : Avoided) (ns : List ℕ) →
-    is_listed x (map (entry_of row.neighbour) (filter (has_bit row.words) ns)) ≡ list_any (row_test row x) ns
+    is_listed x (map (entry_of row.neighbour) (filter (has_bit row.words) ns)) ≡ list_any (stands_for row x) ns
 any_of_bits row x [] = refl
 any_of_bits row x (n ∷ ns) = by (any_of_bits row x ns) (has_bit row.words n)
   where
-    by : is_listed x (map (entry_of row.neighbour) (filter (has_bit row.words) ns)) ≡ list_any (row_test row x) ns → (b : Bool) →
+    by : is_listed x (map (entry_of row.neighbour) (filter (has_bit row.words) ns)) ≡ list_any (stands_for row x) ns → (b : Bool) →
         is_listed x (map (entry_of row.neighbour) (cond b (n ∷ filter (has_bit row.words) ns) (filter (has_bit row.words) ns)))
-        ≡ ((b && is_eq (avoided_cmp x (entry_of row.neighbour n))) || list_any (row_test row x) ns)
+        ≡ ((b && is_eq (avoided_cmp x (entry_of row.neighbour n))) || list_any (stands_for row x) ns)
     by rest true = ap (λ b. is_eq (avoided_cmp x (entry_of row.neighbour n)) || b) rest
     by rest false = rest
 
-pub any_bit : (row : AvoidRow) (x : Avoided) → is_listed x (entries_of row) ≡ list_any (row_test row x) (range_with_len 0 288)
+pub any_bit : (row : AvoidRow) (x : Avoided) → is_listed x (entries_of row) ≡ list_any (stands_for row x) (range_with_len 0 288)
 any_bit row x = any_of_bits row x (range_with_len 0 288)
 
 range_more : (n a j : ℕ) → a + n ≡ j → range_with_len a (n + 1) ≡ range_with_len a n ++ j ∷ []
@@ -313,11 +309,11 @@ range_more (suc n) a j e =
     ap (range_with_len a) next ∙ ap (λ ns. a ∷ ns) (range_more n (a + 1) j (omega (arith, e)))
 
 pub any_bit_more : (row : AvoidRow) (x : Avoided) (n : ℕ) →
-    list_any (row_test row x) (range_with_len 0 (n + 1)) ≡ (list_any (row_test row x) (range_with_len 0 n) || row_test row x n)
+    list_any (stands_for row x) (range_with_len 0 (n + 1)) ≡ (list_any (stands_for row x) (range_with_len 0 n) || stands_for row x n)
 any_bit_more row x n =
-    ap (list_any (row_test row x)) (range_more n 0 n (omega arith))
-    ∙ list_any-append (row_test row x) (range_with_len 0 n) (n ∷ [])
-    ∙ ap (λ b. list_any (row_test row x) (range_with_len 0 n) || b) (by (row_test row x n))
+    ap (list_any (stands_for row x)) (range_more n 0 n (omega arith))
+    ∙ list_any-append (stands_for row x) (range_with_len 0 n) (n ∷ [])
+    ∙ ap (λ b. list_any (stands_for row x) (range_with_len 0 n) || b) (by (stands_for row x n))
   where
     by : (b : Bool) → (b || false) ≡ b
     by true = refl
@@ -421,7 +417,7 @@ within_more f g h other p q e x k = elim (or_cases (f x) (g x) (sym (e x) ∙ k)
 
 -- one number of a row
 pub bit_listed : (row : AvoidRow) (n : ℕ) (other : List Avoided) → (has_bit row.words n ≡ true → is_listed (entry_of row.neighbour n) other ≡ true) →
-    AreListed (λ x. row_test row x n) other
+    AreListed (λ x. stands_for row x n) other
 bit_listed row n other has x h =
     let two = and_parts (has_bit row.words n) (is_eq (avoided_cmp x (entry_of row.neighbour n))) h in
     listed_one (entry_of row.neighbour n) other (has two.0) x two.1
@@ -458,7 +454,7 @@ gains_other_if rows others new entry (Ok d) is = ap (listed_in rows) is ∙ gain
 abbrev pub any_row : List AvoidRow → Avoided → Bool
 any_row rows x = list_any (λ row. is_listed x (entries_of row)) rows
 
-any_row_more : (rows : List AvoidRow) (i : ℕ) (row : AvoidRow) → i < length rows → row ≡ get_or rows i row → (x : Avoided) →
+pub any_row_more : (rows : List AvoidRow) (i : ℕ) (row : AvoidRow) → i < length rows → row ≡ get_or rows i row → (x : Avoided) →
     any_row (take (i + 1) rows) x ≡ (any_row (take i rows) x || is_listed x (entries_of row))
 any_row_more rows i row within is x =
     list_any_more (λ r. is_listed x (entries_of r)) rows i row within ∙ ap (λ r. any_row (take i rows) x || is_listed x (entries_of r)) (sym is)
@@ -502,7 +498,7 @@ row_found rows i one row b within is same here u others x h =
     (list_any_at (λ r. is_listed x (entries_of r)) rows i one within
     (ap (λ r. is_listed x (entries_of r)) (sym is ∙ same here) ∙ h))
 
-pub no_bit : (row : AvoidRow) (n : ℕ) (other : List Avoided) → has_bit row.words n ≡ false → AreListed (λ x. row_test row x n) other
+pub no_bit : (row : AvoidRow) (n : ℕ) (other : List Avoided) → has_bit row.words n ≡ false → AreListed (λ x. stands_for row x n) other
 no_bit row n other none x h = absurd (false≢true (sym (ap (λ b. b && is_eq (avoided_cmp x (entry_of row.neighbour n))) none) ∙ h))
 
 -- what a loop takes for an item past the last

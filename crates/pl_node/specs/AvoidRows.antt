@@ -8,7 +8,9 @@ use Rattle.pl_frame.specs.declared.address.SwitchId.{SwitchId}
 use Rattle.pl_layouts.specs.Equality.{same_switch}
 use Rattle.pl_node.specs.ManagerViews.{in_order}
 use Rattle.pl_node.specs.AvoidLists.{avoided_cmp}
+use Rattle.pl_node.specs.Hidden.{hidden_at}
 use Rattle.pl_node.specs.declared.avoid_row.AvoidRow.{AvoidRow}
+use Rattle.pl_node.specs.declared.hidden.Hidden.{Hidden}
 
 -- the number of the bit of a pod and a position, where they have one
 abbrev pub number_of : ℕ → ℕ → Option ℕ
@@ -20,6 +22,10 @@ entry_of neighbour number = (neighbour, number / 12, number % 12)
 
 abbrev pub entries_of : AvoidRow → List (SwitchId × ℕ × ℕ)
 entries_of row = map (entry_of row.neighbour) (filter (has_bit row.words) (range_with_len 0 288))
+
+-- whether a bit of a row is set, and stands for this entry
+abbrev pub stands_for : AvoidRow → SwitchId × ℕ × ℕ → ℕ → Bool
+stands_for row x n = has_bit row.words n && is_eq (avoided_cmp x (entry_of row.neighbour n))
 
 -- all that the rows have and what stands beside them, in rising order
 unfoldable pub listed_in : List AvoidRow → List (SwitchId × ℕ × ℕ) → List (SwitchId × ℕ × ℕ)
@@ -53,3 +59,7 @@ AreListed test list = (x : SwitchId × ℕ × ℕ) → test x ≡ true → is_li
 abbrev pub AreSameBeyond : AvoidRow → AvoidRow → List (SwitchId × ℕ × ℕ) → Type 0
 AreSameBeyond a b list =
     (x : SwitchId × ℕ × ℕ) → (is_listed x (entries_of a) && not (is_listed x list)) ≡ (is_listed x (entries_of b) && not (is_listed x list))
+
+-- nothing that passes is hidden
+abbrev pub AreApart : (SwitchId × ℕ × ℕ → Bool) → Option Hidden → Type 0
+AreApart test hidden = (x : SwitchId × ℕ × ℕ) → test x ≡ true → hidden_at hidden x.1 x.2 ≡ false

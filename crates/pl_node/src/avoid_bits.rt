@@ -1,15 +1,17 @@
-ghost use Rattle.std.specs.Prelude.{◌≡◌, ◌↔◌, ◌&&◌, ◌<◌, ℕ, List, not, [], IfOk, IsTrue, OnErr, OnOk, fold};
+ghost use Rattle.std.specs.Prelude.{◌≡◌, ◌↔◌, ◌+◌, ◌-◌, ◌*◌, ◌&&◌, ◌<◌, ◌≤◌, ℕ, List, min, not, [], IfOk, IsTrue, OnErr, OnOk, fold, if◌then◌else◌};
 ghost use Rattle.std.specs.BTreeSet.{insert_key};
 ghost use Rattle.std.specs.Ordering.{is_eq};
-ghost use Rattle.std.specs.List.{list_any};
+ghost use Rattle.std.specs.List.{list_any, range_with_len};
 ghost use Rattle.std.specs.List.Sorted.{IsStrictlySortedBy};
-ghost use Rattle.pl_bits.specs.Bits.{has_bit};
 ghost use Rattle.pl_frame.specs.declared.address.SwitchId.{SwitchId};
 ghost use Rattle.pl_node.specs.AvoidLists.{avoided_cmp, is_for};
-ghost use Rattle.pl_node.specs.AvoidRows.{AreListed, AreSameBeyond, Gains, entries_of, entry_of, is_listed, listed_in};
+ghost use Rattle.pl_node.specs.Hidden.{hidden_at, shown};
+ghost use Rattle.pl_node.specs.AvoidRows.{AreApart, AreListed, AreSameBeyond, Gains, entries_of, is_listed, listed_in, stands_for};
 
 use crate::Memory;
 use crate::avoid_row::{AvoidRow, NUMBERS, put, rows_have, some_has};
+use crate::avoid_within::{are_apart, are_within};
+use crate::hidden::{Hidden, hidden_at};
 use pl_frame::SwitchId;
 use pl_lists::Rising;
 use std::alloc::Global;
@@ -106,7 +108,14 @@ impl AvoidBits {
     pub(crate) fn is(&self, other: &AvoidBits) -> bool
         ensures { IsTrue result ↔ (self.now ≡ other.now) }
     {
-        self.has_same_rows(other) || self.has_same_entries(other)
+        self.is_but(None, other)
+    }
+
+    /// Whether another list is the same apart from what is hidden.
+    pub(crate) fn is_but(&self, hidden: Option<Hidden>, other: &AvoidBits) -> bool
+        ensures { IsTrue result ↔ (shown hidden self.now ≡ shown hidden other.now) }
+    {
+        self.has_same_rows(other) || self.has_same_shown(hidden, other)
     }
 
     // Whether another list is kept in the same rows, with nothing beside them.
@@ -121,10 +130,50 @@ impl AvoidBits {
         )
     }
 
-    fn has_same_entries(&self, other: &AvoidBits) -> bool
-        ensures { IsTrue result ↔ (self.now ≡ other.now) }
+    fn has_same_shown(&self, hidden: Option<Hidden>, other: &AvoidBits) -> bool
+        ensures { IsTrue result ↔ (shown hidden self.now ≡ shown hidden other.now) }
     {
-        self.is_within(other) && other.is_within(self)
+        self.is_within(hidden, other) && other.is_within(hidden, self)
+    }
+
+    /// Whether what is not hidden here is what is not hidden of another list.
+    pub(crate) fn is_shown_as(
+        &self,
+        hidden: Option<Hidden>,
+        other: &AvoidBits,
+        also: Option<Hidden>,
+    ) -> bool
+        ensures { IsTrue result ↔ (shown hidden self.now ≡ shown also other.now) }
+    {
+        self.is_in_shown(hidden, other, also) && other.is_in_shown(also, self, hidden)
+    }
+
+    // Whether another list shows all that is shown here.
+    fn is_in_shown(&self, hidden: Option<Hidden>, other: &AvoidBits, also: Option<Hidden>) -> bool
+        ensures within { IsTrue result ↔ AreListed (λ x. is_listed x (shown hidden self.now)) (shown also other.now) }
+        ensures rising { IsStrictlySortedBy avoided_cmp self.now }
+    {
+        self.is_within(hidden, other) && self.is_apart(hidden, also)
+    }
+
+    // Whether nothing is shown here that is hidden there.
+    fn is_apart(&self, hidden: Option<Hidden>, also: Option<Hidden>) -> bool
+        ensures { IsTrue result ↔ AreApart (λ x. is_listed x (shown hidden self.now)) also }
+    {
+        are_apart(self.rows.as_slice(), self.others.as_slice(), hidden, also)
+    }
+
+    /// What is not hidden, as a list of its own.
+    pub(crate) fn shown(&self, alloc: Global, hidden: Option<Hidden>) -> Result<AvoidBits, Memory>
+        ensures { IfOk result (λ list. list ≡ shown hidden self.now) }
+    {
+        let rows = shown_rows(alloc, self.rows.as_slice(), hidden)?;
+        let others = shown_entries(alloc, self.others.as_slice(), hidden)?;
+        Ok(AvoidBits {
+            alloc,
+            rows,
+            others,
+        })
     }
 
     /// Whether there are no entries.
@@ -134,23 +183,23 @@ impl AvoidBits {
         self.is(&AvoidBits::new(self.alloc))
     }
 
-    // Whether another list has all its entries.
-    fn is_within(&self, other: &AvoidBits) -> bool
-        ensures within { IsTrue result ↔ AreListed (λ x. is_listed x self.now) other.now }
+    // Whether another list has all its entries that are not hidden.
+    fn is_within(&self, hidden: Option<Hidden>, other: &AvoidBits) -> bool
+        ensures within { IsTrue result ↔ AreListed (λ x. is_listed x (shown hidden self.now)) other.now }
         ensures rising { IsStrictlySortedBy avoided_cmp self.now }
     {
-        are_within(self.rows.as_slice(), self.others.as_slice(), other)
+        are_within(self.rows.as_slice(), self.others.as_slice(), hidden, other)
     }
 
-    // Whether a row stands among the rows.
-    fn has_row(&self, row: &AvoidRow) -> bool
+    /// Whether a row stands among the rows.
+    pub(crate) fn has_row(&self, row: &AvoidRow) -> bool
         ensures { IsTrue result → AreListed (λ x. is_listed x (entries_of row.now)) self.now }
     {
         has_row(self.rows.as_slice(), row)
     }
 
-    // A row without the bits that stand in the row of its neighbour here.
-    fn beyond(&self, row: &AvoidRow) -> AvoidRow
+    /// A row without the bits that stand in the row of its neighbour here.
+    pub(crate) fn beyond(&self, row: &AvoidRow) -> AvoidRow
         ensures { AreSameBeyond result row.now self.now }
     {
         beyond(self.rows.as_slice(), self.others.as_slice(), row)
@@ -297,7 +346,41 @@ fn add_numbers(
 ) -> Result<(), Memory>
     ensures { OnOk result (Gains list.old list.new other.now (λ x. is_listed x (entries_of row.now))) }
 {
-    for number in 0..NUMBERS {
+    for word in 0..5 {
+        add_word(list, row, word, other)?;
+    }
+    Ok(())
+}
+
+// The same by one word of the bits, unless none is set there.
+fn add_word(
+    list: &mut Rising<(SwitchId, u16, u8)>,
+    row: &AvoidRow,
+    word: usize,
+    other: &AvoidBits,
+) -> Result<(), Memory>
+    requires { word < 5 }
+    ensures { OnOk result (Gains list.old list.new other.now
+        (λ x. list_any (stands_for row.now x) (range_with_len (word * 64) (min (word * 64 + 64) 288 - word * 64)))) }
+{
+    if row.is_clear(word) {
+        return Ok(());
+    }
+    add_range(list, row, word * 64, (word * 64 + 64).min(NUMBERS), other)
+}
+
+fn add_range(
+    list: &mut Rising<(SwitchId, u16, u8)>,
+    row: &AvoidRow,
+    from: usize,
+    end: usize,
+    other: &AvoidBits,
+) -> Result<(), Memory>
+    requires order { from ≤ end }
+    requires within { end ≤ 288 }
+    ensures { OnOk result (Gains list.old list.new other.now (λ x. list_any (stands_for row.now x) (range_with_len from (end - from)))) }
+{
+    for number in from..end {
         add_number(list, row, number, other)?;
     }
     Ok(())
@@ -310,8 +393,7 @@ fn add_number(
     other: &AvoidBits,
 ) -> Result<(), Memory>
     requires { number < 288 }
-    ensures { OnOk result (Gains list.old list.new other.now
-        (λ x. has_bit row.now.words number && is_eq (avoided_cmp x (entry_of row.now.neighbour number)))) }
+    ensures { OnOk result (Gains list.old list.new other.now (λ x. stands_for row.now x number)) }
 {
     if !row.has(number) {
         return Ok(());
@@ -344,13 +426,6 @@ fn add_unless(
         return Ok(());
     }
     list.insert(entry)
-}
-
-// Whether another list has all that rows and the entries beside them have.
-fn are_within(rows: &[AvoidRow], others: &[(SwitchId, u16, u8)], other: &AvoidBits) -> bool
-    ensures { IsTrue result ↔ AreListed (λ x. is_listed x (listed_in rows.now others.now)) other.now }
-{
-    are_rows_within(rows, other) && are_others_within(others, other)
 }
 
 fn has_row(rows: &[AvoidRow], row: &AvoidRow) -> bool
@@ -419,72 +494,46 @@ fn is_same_row(a: &AvoidRow, b: &AvoidRow) -> bool
     a == b
 }
 
-fn are_rows_within(rows: &[AvoidRow], other: &AvoidBits) -> bool
-    ensures { IsTrue result ↔ AreListed (λ x. list_any (λ row. is_listed x (entries_of row)) rows.now) other.now }
+// The rows without what is hidden.
+fn shown_rows(
+    alloc: Global,
+    rows: &[AvoidRow],
+    hidden: Option<Hidden>,
+) -> Result<Vec<AvoidRow>, Memory>
+    ensures { IfOk result (λ left. (x : SwitchId × ℕ × ℕ) → list_any (λ row. is_listed x (entries_of row)) left.items
+        ≡ (list_any (λ row. is_listed x (entries_of row)) rows.now && not (hidden_at hidden x.1 x.2))) }
 {
+    let mut left = Vec::with_capacity(alloc, rows.len())?;
     for row in rows {
-        if !is_row_within(row, other) {
-            return false;
-        }
+        left.push(row.shown(hidden))?;
     }
-    true
+    Ok(left)
 }
 
-fn is_row_within(row: &AvoidRow, other: &AvoidBits) -> bool
-    ensures { IsTrue result ↔ AreListed (λ x. is_listed x (entries_of row.now)) other.now }
+/// The entries of a list that are not hidden.
+pub(crate) fn shown_entries(
+    alloc: Global,
+    entries: &[(SwitchId, u16, u8)],
+    hidden: Option<Hidden>,
+) -> Result<Rising<(SwitchId, u16, u8)>, Memory>
+    ensures { IfOk result (λ left. (x : SwitchId × ℕ × ℕ) → is_listed x left ≡ (is_listed x entries.now && not (hidden_at hidden x.1 x.2))) }
 {
-    other.has_row(row) || is_beyond_within(row, other)
-}
-
-// The same by the bits beyond those of the other list.
-fn is_beyond_within(row: &AvoidRow, other: &AvoidBits) -> bool
-    ensures { IsTrue result ↔ AreListed (λ x. is_listed x (entries_of row.now)) other.now }
-{
-    is_all_within(&other.beyond(row), other)
-}
-
-// The same by its bits, of which one is tried first: mostly a list that has not all of them lacks that one.
-fn is_all_within(row: &AvoidRow, other: &AvoidBits) -> bool
-    ensures { IsTrue result ↔ AreListed (λ x. is_listed x (entries_of row.now)) other.now }
-{
-    is_first_within(row, other) && are_numbers_within(row, other)
-}
-
-fn is_first_within(row: &AvoidRow, other: &AvoidBits) -> bool
-    ensures { AreListed (λ x. is_listed x (entries_of row.now)) other.now → IsTrue result }
-{
-    match row.first() {
-        Some(number) => is_number_within(row, number, other),
-        None => true,
+    let mut left = Rising::new(alloc);
+    for entry in entries {
+        add_shown(&mut left, *entry, hidden)?;
     }
+    Ok(left)
 }
 
-fn are_numbers_within(row: &AvoidRow, other: &AvoidBits) -> bool
-    ensures { IsTrue result ↔ AreListed (λ x. is_listed x (entries_of row.now)) other.now }
+fn add_shown(
+    left: &mut Rising<(SwitchId, u16, u8)>,
+    entry: (SwitchId, u16, u8),
+    hidden: Option<Hidden>,
+) -> Result<(), Memory>
+    ensures { OnOk result (left.new ≡ (if hidden_at hidden entry.1 entry.2 then left.old else insert_key avoided_cmp left.old entry)) }
 {
-    for number in 0..NUMBERS {
-        if !is_number_within(row, number, other) {
-            return false;
-        }
+    if hidden_at(hidden, entry.1, entry.2) {
+        return Ok(());
     }
-    true
-}
-
-fn is_number_within(row: &AvoidRow, number: usize, other: &AvoidBits) -> bool
-    requires { number < 288 }
-    ensures { IsTrue result ↔ AreListed
-        (λ x. has_bit row.now.words number && is_eq (avoided_cmp x (entry_of row.now.neighbour number))) other.now }
-{
-    !row.has(number) || other.contains(&row.entry(number))
-}
-
-fn are_others_within(others: &[(SwitchId, u16, u8)], other: &AvoidBits) -> bool
-    ensures { IsTrue result ↔ AreListed (λ x. is_listed x others.now) other.now }
-{
-    for entry in others {
-        if !other.contains(entry) {
-            return false;
-        }
-    }
-    true
+    left.insert(entry)
 }

@@ -1,12 +1,14 @@
-ghost use Rattle.std.specs.Prelude.{◌≡◌, ◌==◌, ◌&&◌, ◌||◌, ◌<◌, ℕ, IfSome, IsTrue, OnErr, OnOk, false, true, length, not, slice_index, slice_index_or};
+ghost use Rattle.std.specs.Prelude.{◌≡◌, ◌==◌, ◌&&◌, ◌||◌, ◌<◌, ◌/◌, ◌%◌, ℕ, IfSome, IsTrue, OnErr, OnOk, false, true, length, not, slice_index, slice_index_or};
 ghost use Rattle.std.specs.List.{list_any};
 ghost use Rattle.pl_bits.specs.Bits.{has_bit, is_set};
 ghost use Rattle.pl_frame.specs.declared.address.SwitchId.{SwitchId};
 ghost use Rattle.pl_layouts.specs.Equality.{same_switch};
 ghost use Rattle.pl_node.specs.declared.avoid_row.AvoidRow.{AvoidRow};
+ghost use Rattle.pl_node.specs.Hidden.{hidden_at, hides};
 ghost use Rattle.pl_node.specs.AvoidRows.{entry_of, number_of, row_has, rows_have, some_has};
 
 use crate::Memory;
+use crate::hidden::Hidden;
 use pl_bits::bit_of;
 use pl_frame::SwitchId;
 
@@ -44,7 +46,7 @@ impl AvoidRow {
     }
 
     /// Whether a bit is set.
-    pub(crate) fn has(&self, number: usize) -> bool
+    pub fn has(&self, number: usize) -> bool
         requires { number < 288 }
         ensures { result ≡ has_bit self.now.words number }
     {
@@ -72,6 +74,14 @@ impl AvoidRow {
             return Some(number);
         }
         None
+    }
+
+    /// Whether a word of it has no bit.
+    pub(crate) fn is_clear(&self, word: usize) -> bool
+        requires { word < 5 }
+        ensures { IsTrue result → slice_index self.now.words word ≡ 0 }
+    {
+        self.words[word] == 0
     }
 
     /// What a bit stands for.
@@ -106,6 +116,54 @@ impl AvoidRow {
             words: words_without(&self.words, &other.words),
         }
     }
+}
+
+impl AvoidRow {
+    /// The row without what is hidden.
+    pub(crate) fn shown(&self, hidden: Option<Hidden>) -> AvoidRow
+        ensures neighbour { result.neighbour ≡ self.now.neighbour }
+        ensures bits { (n : ℕ) → n < 288 → has_bit result.words n ≡ (has_bit self.now.words n && not (hidden_at hidden (n / 12) (n % 12))) }
+    {
+        match hidden {
+            Some(hidden) => self.without(&AvoidRow::hiding(self.neighbour, hidden)),
+            None => *self,
+        }
+    }
+
+    // The bits of what is hidden.
+    fn hiding(neighbour: SwitchId, hidden: Hidden) -> AvoidRow
+        ensures neighbour { result.neighbour ≡ neighbour }
+        ensures bits { (n : ℕ) → n < 288 → has_bit result.words n ≡ hides hidden (n / 12) (n % 12) }
+    {
+        let none = AvoidRow::of(neighbour);
+        match hidden.position {
+            Some(position) => with_address(none, hidden.pod, position),
+            None => with_pod(none, hidden.pod),
+        }
+    }
+}
+
+// The row with the bit of a pod and a position, if they have one.
+fn with_address(row: AvoidRow, pod: u16, position: u8) -> AvoidRow
+    ensures neighbour { result.neighbour ≡ row.neighbour }
+    ensures bits { (n : ℕ) → n < 288 → has_bit result.words n ≡ (((pod == n / 12) && (position == n % 12)) || has_bit row.words n) }
+{
+    match AvoidRow::number_of(pod, position) {
+        Some(number) => row.with(number),
+        None => row,
+    }
+}
+
+// The row with the bits of all positions of a pod.
+fn with_pod(row: AvoidRow, pod: u16) -> AvoidRow
+    ensures neighbour { result.neighbour ≡ row.neighbour }
+    ensures bits { (n : ℕ) → n < 288 → has_bit result.words n ≡ ((pod == n / 12) || has_bit row.words n) }
+{
+    let mut row = row;
+    for position in 0..12u8 {
+        row = with_address(row, pod, position);
+    }
+    row
 }
 
 fn words_without(words: &[u64; 5], others: &[u64; 5]) -> [u64; 5]

@@ -1,44 +1,21 @@
-use Rattle.std.proofs.Common.{◌≡◌, List, Option, None, subst}
-use Rattle.std.proofs.lemmas.Result.{IfOk-weaker}
-use Rattle.pl_node.specs.AvoidLists.{avoid_list}
-use Rattle.pl_faults.specs.declared.sharing.Shared.{Shared}
-use Rattle.pl_faults.specs.Making.{Avoided}
-use Rattle.pl_faults.specs.Missed.{IsLeading}
-use Rattle.pl_faults.specs.Sharing.{IsShared, MayBeShared}
+use Rattle.std.proofs.Common.{◌∙◌, ap}
+use Rattle.pl_node.specs.Hidden.{shown}
+use Rattle.pl_node.specs.ManagerViews.{place_of}
+use Rattle.pl_faults.specs.Sharing.{hidden_of}
+use Rattle.pl_faults.proofs.Shared.{shown_list}
 use Rattle.pl_faults.proofs.sharing.list_after.Goals as goal
 
-pub returns-in-Some-clause-list : goal.returns-in-Some-clause-list
-returns-in-Some-clause-list c =
-    let told = c.args.reports.now in let known = c.args.leading.now in
-    IfOk-weaker c.list_beside.result
-    (λ (made : List Avoided × Option Shared). IsLeading told known → IsShared told known.misses.entries c.in-Some.shared → made.0 ≡ avoid_list told c.args.switch)
-    (λ (made : List Avoided × Option Shared). IsLeading told known → MayBeShared told known c.args.last → made.0 ≡ avoid_list told c.args.switch)
-    (λ made f led last. f led (subst (MayBeShared told known) c.in-Some.is last))
-    c.list_beside.ensures.list
+pub returns-then-not-apart-clause-list : goal.returns-then-not-apart-clause-list
+returns-then-not-apart-clause-list c known = c.in_ok-own.ensures known.leading
 
-pub returns-in-Some-clause-next : goal.returns-in-Some-clause-next
-returns-in-Some-clause-next c =
-    let told = c.args.reports.now in let known = c.args.leading.now in
-    IfOk-weaker c.list_beside.result
-    (λ (made : List Avoided × Option Shared). IsLeading told known → IsShared told known.misses.entries c.in-Some.shared → MayBeShared told known made.1)
-    (λ (made : List Avoided × Option Shared). IsLeading told known → MayBeShared told known c.args.last → MayBeShared told known made.1)
-    (λ made f led last. f led (subst (MayBeShared told known) c.in-Some.is last))
-    c.list_beside.ensures.next
+pub returns-then-not-apart-clause-next : goal.returns-then-not-apart-clause-next
+returns-then-not-apart-clause-next c known = known
 
-pub returns-in-None-clause-list : goal.returns-in-None-clause-list
-returns-in-None-clause-list c =
-    let told = c.args.reports.now in let known = c.args.leading.now in
-    IfOk-weaker c.list_anew.result
-    (λ (made : List Avoided × Option Shared). IsLeading told known → made.0 ≡ avoid_list told c.args.switch)
-    (λ (made : List Avoided × Option Shared). IsLeading told known → MayBeShared told known c.args.last → made.0 ≡ avoid_list told c.args.switch)
-    (λ made f led last. f led)
-    c.list_anew.ensures.list
+pub returns-clause-list : goal.returns-clause-list
+returns-clause-list c known =
+    let told = c.args.reports.now in
+    c.in_ok-list.ensures ∙ ap (shown (hidden_of (place_of told c.args.switch))) (c.in_ok-shared.ensures known.shared).1
+    ∙ shown_list told c.args.leading.now known.leading (known.apart c.if-not-apart.false) c.args.switch
 
-pub returns-in-None-clause-next : goal.returns-in-None-clause-next
-returns-in-None-clause-next c =
-    let told = c.args.reports.now in let known = c.args.leading.now in
-    IfOk-weaker c.list_anew.result
-    (λ (made : List Avoided × Option Shared). IsLeading told known → MayBeShared told known None → MayBeShared told known made.1)
-    (λ (made : List Avoided × Option Shared). IsLeading told known → MayBeShared told known c.args.last → MayBeShared told known made.1)
-    (λ made f led last. f led tt)
-    c.list_anew.ensures.next
+pub returns-clause-next : goal.returns-clause-next
+returns-clause-next c known = record { leading = known.leading; apart = known.apart; shared = (c.in_ok-shared.ensures known.shared).0 }

@@ -1,12 +1,7 @@
-use Rattle.std.proofs.Common.{◌&&◌}
+use Rattle.std.proofs.Common.{◌*◌, ◌-◌, min}
 use Rattle.std.specs.List.{list_any, range_with_len}
-use Rattle.std.specs.Ordering.{is_eq}
-use Rattle.pl_bits.specs.Bits.{has_bit}
-use Rattle.pl_node.specs.AvoidLists.{avoided_cmp}
-use Rattle.pl_node.specs.AvoidRows.{Gains, entry_of}
+use Rattle.pl_node.specs.AvoidRows.{Gains, stands_for}
 use Rattle.pl_node.proofs.avoid_bits.add_numbers.Given as goal
 
-abbrev pub invariant-loop-number : goal.invariant-loop-number
-invariant-loop-number l =
-    Gains l.initial.list l.list l.fn.other
-    (λ x. list_any (λ n. has_bit l.fn.row.words n && is_eq (avoided_cmp x (entry_of l.fn.row.neighbour n))) (range_with_len 0 l.number))
+abbrev pub invariant-loop-word : goal.invariant-loop-word
+invariant-loop-word l = Gains l.initial.list l.list l.fn.other (λ x. list_any (stands_for l.fn.row x) (range_with_len 0 (min (l.word * 64) 288 - 0)))

@@ -1,4 +1,4 @@
-use Rattle.std.proofs.Common.{◌≡◌, ◌∙◌, ap}
+use Rattle.std.proofs.Common.{◌∙◌, ap}
 use Rattle.pl_node.specs.AvoidRows.{listed_in}
 use Rattle.pl_node.proofs.AvoidRows.{gains_row, list_rises}
 use Rattle.pl_node.proofs.avoid_bits.put_row.Goals as goal

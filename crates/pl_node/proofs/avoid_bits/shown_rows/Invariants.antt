@@ -1,0 +1,8 @@
+use Rattle.std.proofs.Common.{◌≡◌, take}
+use Rattle.std.specs.Prelude.{◌&&◌, not}
+use Rattle.pl_node.specs.Hidden.{hidden_at}
+use Rattle.pl_node.proofs.AvoidRows.{Avoided, any_row}
+use Rattle.pl_node.proofs.avoid_bits.shown_rows.Given as goal
+
+abbrev pub invariant-loop-row : goal.invariant-loop-row
+invariant-loop-row l = (x : Avoided) → any_row l.left.items x ≡ (any_row (take l.row-index l.rows) x && not (hidden_at l.fn.hidden x.1 x.2))

@@ -1,0 +1,6 @@
+use Rattle.std.proofs.Common.{◌∙◌, ap}
+use Rattle.pl_node.specs.Hidden.{shown}
+use Rattle.pl_node.proofs.avoid_list.AvoidList.bits.Goals as goal
+
+pub returns : goal.returns
+returns c = c.in_ok-bits.ensures ∙ ap (shown c.self.inside.hidden) c.rows_or.ensures ∙ c.self.view_is

@@ -2,7 +2,7 @@
 use Rattle.std.proofs.Common.{◌≡◌, ℕ, ◌+◌, ◌++◌, take, drop, append_assoc, take-append-drop, ◌%◌, ◌==◌, ◌&&◌, ◌||◌, not, Bool, true, false, cond, List, [], ◌∷◌, length, map, Option, Some, None, refl, sym, ap, ◌∙◌}
 use Rattle.std.specs.Prelude.{unwrap_or}
 use Rattle.std.specs.List.{filter, find, list_any}
-use Rattle.std.specs.Option.{option_and_then, option_map, option_or}
+use Rattle.std.specs.Option.{option_and_then, option_map}
 use Rattle.std.specs.Map.{keys_of}
 use Rattle.std.specs.BTreeMap.{is_at}
 use Rattle.std.proofs.Math.Dec.{eqb-suc-zero}
@@ -17,12 +17,12 @@ use Rattle.pl_node.specs.declared.messages.TreePart.{TreePart}
 use Rattle.pl_node.specs.ManagerViews.{Members, Told, alive_at_level, alive_neighbours, edge_at, has_level, id_cmp, is_alive, neighbours, place_of, switches, tellers, value_at}
 use Rattle.pl_node.specs.Trees.{aggregation_part, best_cores, core_for, core_of, core_part, cores, edge_part, largest, needed_edges, part_under, reach, serves, tree_part}
 use Rattle.pl_node.proofs.Exports.{among_filter, among_in_order, among_left, any_among, got_among, IsAmong}
-use Rattle.pl_manager_rule.proofs.Exports.{found_key, id_exact, same_is, switch_turned}
+use Rattle.pl_manager_rule.proofs.Exports.{found_key, id_exact, switch_turned}
 use Rattle.pl_groups.specs.Rooted.{IsRoot}
 use Rattle.pl_groups.specs.Serving.{many_served, part_of_told, served_at}
 use Rattle.pl_groups.specs.declared.root.Root.{Root}
 use Rattle.pl_groups.proofs.Reached.{is_adjacent}
-use Rattle.pl_groups.proofs.Edges.{any_more, is_here, served_by_neighbours}
+use Rattle.pl_groups.proofs.Edges.{is_here, served_by_neighbours}
 use Rattle.pl_groups.proofs.Rows.{count_is}
 
 -- ---- lists
@@ -136,37 +136,6 @@ none_next {X} p items i x more none is = ap (find p) more ∙ last (take i items
         by : (find p xs ≡ None → find p (xs ++ x ∷ []) ≡ None) → (b : Bool) → cond b (Some z) (find p xs) ≡ None → cond b (Some z) (find p (xs ++ x ∷ [])) ≡ None
         by rest true j = absurd (cc)
         by rest false j = rest j
-
--- ---- the parts of one switch after another
-either_part : (l : Bool) (part : Option TreePart) → option_or part (cond l part None) ≡ cond (l || true) part None
-either_part true None = refl
-either_part false None = refl
-either_part true (Some part) = refl
-either_part false (Some part) = refl
-
-no_more_parts : (l : Bool) (part : Option TreePart) → cond l part None ≡ cond (l || false) part None
-no_more_parts true part = refl
-no_more_parts false part = refl
-
-pub parts_next : (told : Told) (needed items : List SwitchId) (core : SwitchId) (i : ℕ) (x : SwitchId) (old new : List (SwitchId × TreePart)) (part : Option TreePart) →
-    take (i + 1) items ≡ take i items ++ x ∷ [] →
-    ((s : SwitchId) → value_at id_cmp old s ≡ cond (list_any (same_switch s) (take i items)) (part_under told needed s core) None) →
-    ((s : SwitchId) → value_at id_cmp new s ≡ cond (same_switch x s) (option_or part (value_at id_cmp old s)) (value_at id_cmp old s)) →
-    part ≡ part_under told needed x core → (s : SwitchId) →
-    value_at id_cmp new s ≡ cond (list_any (same_switch s) (take (i + 1) items)) (part_under told needed s core) None
-parts_next told needed items core i x old new part more were says is s =
-    says s ∙ by (same_switch x s) refl
-    ∙ ap (λ c. cond c (part_under told needed s core) None) (sym (ap (list_any (same_switch s)) more ∙ any_more (same_switch s) (take i items) x))
-  where
-    by : (b : Bool) → same_switch x s ≡ b → cond b (option_or part (value_at id_cmp old s)) (value_at id_cmp old s)
-        ≡ cond (list_any (same_switch s) (take i items) || same_switch s x) (part_under told needed s core) None
-    by true same =
-        let own : part ≡ part_under told needed s core = is ∙ ap (λ z. part_under told needed z core) (same_is x s same) in
-        (λ j. option_or (own j) (were s j)) ∙ either_part (list_any (same_switch s) (take i items)) (part_under told needed s core)
-        ∙ ap (λ c. cond (list_any (same_switch s) (take i items) || c) (part_under told needed s core) None) (sym (switch_turned s x ∙ same))
-    by false same =
-        were s ∙ no_more_parts (list_any (same_switch s) (take i items)) (part_under told needed s core)
-        ∙ ap (λ c. cond (list_any (same_switch s) (take i items) || c) (part_under told needed s core) None) (sym (switch_turned s x ∙ same))
 
 -- ---- switches that told nothing have no part
 

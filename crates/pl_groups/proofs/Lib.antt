@@ -5,6 +5,7 @@ pub mod Reached
 pub mod Rows
 pub mod Branches
 pub mod Placed
+pub mod Beside
 pub mod Bare
 pub mod Rostered
 pub mod Forgotten

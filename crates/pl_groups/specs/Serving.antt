@@ -3,15 +3,16 @@ use Rattle.std.specs.Prelude.{ℕ, Bool, if◌then◌else◌, List, Option, Some
 use Rattle.std.specs.List.{list_any}
 use Rattle.pl_bits.specs.Rows.{trues}
 use Rattle.pl_frame.specs.declared.address.SwitchId.{SwitchId}
-use Rattle.pl_layouts.specs.declared.place.Place.{Place}
 use Rattle.pl_layouts.specs.Equality.{same_switch}
 use Rattle.pl_node.specs.declared.messages.TreePart.{TreePart}
-use Rattle.pl_node.specs.ManagerViews.{Told, has_level, is_alive, place_of, switches}
+use Rattle.pl_node.specs.ManagerViews.{Told, has_level, is_alive, switches}
 use Rattle.pl_node.specs.Trees.{part_under}
+use Rattle.pl_reports.specs.declared.switch_report.SwitchReport.{SwitchReport}
+use Rattle.pl_reports.specs.Kept.{report_of}
 
--- the place of each switch that told something, by rising id
-abbrev pub all_places : Told → List Place
-all_places told = map (place_of told) (switches told)
+-- what each switch that told something told of itself, by rising id
+abbrev pub all_reports : Told → List SwitchReport
+all_reports told = map (report_of told) (switches told)
 
 -- the row of a switch, if it is an aggregation switch: to which needed edge switches it has an alive link
 abbrev pub served_at : Told → List SwitchId → SwitchId → Option (List Bool)

@@ -4,7 +4,7 @@ ghost use Rattle.pl_frame.specs.declared.address.SwitchId.{SwitchId};
 ghost use Rattle.pl_node.specs.ManagerViews.{alive_neighbours, has_level, place_of};
 ghost use Rattle.pl_node.specs.Trees.{best_cores, core_for, core_reaches, cores, largest, reach, turn};
 ghost use Rattle.pl_groups.specs.Reaching.{IsReachOf, reach_at, with_row};
-ghost use Rattle.pl_groups.specs.Serving.{all_places, all_served, served_at};
+ghost use Rattle.pl_groups.specs.Serving.{all_reports, all_served, served_at};
 
 use crate::place_tests::is_on_level;
 use crate::positions::position;
@@ -12,7 +12,7 @@ use crate::serving::row_in;
 use pl_bits::Row;
 use pl_frame::SwitchId;
 use pl_node::{Memory, Place};
-use pl_reports::Reports;
+use pl_reports::{Reports, SwitchReport};
 use std::alloc::Global;
 
 /// A core switch, and how many needed edge switches it reaches.
@@ -27,18 +27,18 @@ pub(crate) fn core_for(
     alloc: Global,
     reports: &Reports,
     group: u32,
-    places: &[Place],
+    all: &[SwitchReport],
     needed: &[SwitchId],
     served: &[Option<Row>],
 ) -> Result<Option<SwitchId>, Memory>
-    requires places { places.now ≡ all_places reports.now }
+    requires all { all.now ≡ all_reports reports.now }
     requires served { served.now ≡ all_served reports.now needed.now }
     ensures { IfOk result (λ core. core ≡ core_for reports.now group needed.now) }
 {
     if needed.is_empty() {
         return Ok(None);
     }
-    let reaches = reaches(alloc, reports, places, needed, served)?;
+    let reaches = reaches(alloc, reports, all, needed, served)?;
     let best = best_of(alloc, &reaches)?;
     Ok(turn(&best, group))
 }
@@ -47,11 +47,11 @@ pub(crate) fn core_for(
 fn reaches(
     alloc: Global,
     reports: &Reports,
-    places: &[Place],
+    all: &[SwitchReport],
     needed: &[SwitchId],
     served: &[Option<Row>],
 ) -> Result<Vec<CoreReach>, Memory>
-    requires places { places.now ≡ all_places reports.now }
+    requires all { all.now ≡ all_reports reports.now }
     requires served { served.now ≡ all_served reports.now needed.now }
     ensures { IfOk result (λ reaches. reaches.items ≡ map (reach_at reports.now needed.now) (cores reports.now)) }
 {
@@ -67,7 +67,7 @@ fn reaches(
             needed,
             served,
             switch,
-            places[i],
+            all[i].place,
             last,
         )?;
     }

@@ -130,7 +130,7 @@ impl Groups {
     pub fn part_of(&self, group: u32, switch: SwitchId) -> Option<&TreePart>
         ensures { option_copied result ≡ part_kept self.now group switch }
     {
-        part_of(self.trees.get(&group), switch)
+        part_of(self.trees.get(&group), 0, switch)
     }
 
     /// A copy of it.
@@ -159,12 +159,12 @@ fn copy_of(alloc: Global, part: &TreePart) -> Result<TreePart, Memory>
     Ok(TreePart { up: part.up, down })
 }
 
-// The part of a switch in a tree.
-fn part_of(tree: Option<&Tree>, switch: SwitchId) -> Option<&TreePart>
+// The part of a switch in a tree. It is looked for at `near` first.
+fn part_of(tree: Option<&Tree>, near: usize, switch: SwitchId) -> Option<&TreePart>
     ensures { option_copied result ≡ part_in_tree (option_copied tree.entry) switch }
 {
     let tree = tree?;
-    tree.parts.get(&switch)
+    tree.parts.get(near, switch)
 }
 
 // The switches, rising, whose part in one tree is another one than in the other.
@@ -181,9 +181,11 @@ fn changed(
         return Ok(SwitchList::new(alloc));
     }
     let mut changed = SwitchList::new(alloc);
-    for switch in reports.switches() {
-        let is_same = same_part(part_of(before, *switch), part_of(Some(after), *switch));
-        add_if(&mut changed, *switch, !is_same)?;
+    let switches = reports.switches();
+    for i in 0..switches.len() {
+        let switch = switches[i];
+        let is_same = same_part(part_of(before, i, switch), part_of(Some(after), i, switch));
+        add_if(&mut changed, switch, !is_same)?;
     }
     Ok(changed)
 }

@@ -7,7 +7,8 @@ ghost use Rattle.std.specs.Option.{option_copied};
 ghost use Rattle.pl_frame.specs.declared.address.SwitchId.{SwitchId};
 ghost use Rattle.pl_layouts.specs.Equality.{same_switch};
 ghost use Rattle.pl_layouts.specs.Placement.{is_known};
-ghost use Rattle.pl_node.specs.ManagerViews.{alive_at_level, edge_at, has_level, has_pod, id_cmp, is_alive, place_of};
+ghost use Rattle.pl_node.specs.ManagerViews.{alive_at_level, alive_neighbours, edge_at, has_level, has_pod, id_cmp, is_alive};
+ghost use Rattle.pl_reports.specs.Kept.{report_of};
 ghost use Rattle.pl_node.specs.Trees.{aggregation_part, core_part, edge_part, part_under};
 ghost use Rattle.pl_manager_rule.specs.ManagerRule.{same_part, same_up};
 ghost use Rattle.pl_groups.specs.Rooted.{IsRoot};
@@ -20,7 +21,7 @@ use crate::serving::{many_served, row_for};
 use pl_bits::Row;
 use pl_frame::SwitchId;
 use pl_node::{Memory, Place, SwitchList, TreePart};
-use pl_reports::Reports;
+use pl_reports::{Reports, SwitchReport};
 use std::alloc::Global;
 
 /// The part of a switch in a tree under a core switch.
@@ -31,22 +32,22 @@ pub(crate) fn part_under(
     served: &[Option<Row>],
     root: &Root,
     switch: SwitchId,
-    place: Place,
+    report: &SwitchReport,
 ) -> Result<Option<TreePart>, Memory>
     requires rising { IsStrictlySortedBy id_cmp needed.now }
     requires served { served.now ≡ all_served reports.now needed.now }
     requires root { IsRoot reports.now root.now }
-    requires place { place ≡ place_of reports.now switch }
+    requires report { report.now ≡ report_of reports.now switch }
     ensures { IfOk result (λ part. part ≡ part_under reports.now needed.now switch root.now.core) }
 {
     if switch == root.core {
         return Ok(Some(core_part(alloc, reports, needed, served, root.core)?));
     }
-    if is_under(root, switch, place) {
+    if is_under(root, switch, report.place) {
         let part = aggregation_part(alloc, reports, needed, served, root.core, switch)?;
         return Ok(Some(part));
     }
-    Ok(edge_part(alloc, reports, root, switch, place))
+    Ok(edge_part(alloc, reports, root, switch, report))
 }
 
 // Whether a switch at this place is an aggregation switch that is linked to the core switch.
@@ -136,26 +137,29 @@ fn edge_part(
     reports: &Reports,
     root: &Root,
     switch: SwitchId,
-    place: Place,
+    report: &SwitchReport,
 ) -> Option<TreePart>
-    requires { IsRoot reports.now root.now }
-    ensures { result ≡ option_map (edge_part reports.now root.now.core) (edge_at switch place) }
+    requires root { IsRoot reports.now root.now }
+    requires report { report.now ≡ report_of reports.now switch }
+    ensures { result ≡ option_map (edge_part reports.now root.now.core) (edge_at switch report.now.place) }
 {
+    let place = report.place;
     match (place.level, place.position, place.pod) {
         (Some(0), Some(_), Some(pod)) => Some(TreePart {
-            up: first_up(reports, root, switch, pod),
+            up: first_up(reports, root, report.alive.as_slice(), pod),
             down: SwitchList::new(alloc),
         }),
         _ => None,
     }
 }
 
-// The first neighbour above an edge switch that is of its pod and linked to the core switch.
-fn first_up(reports: &Reports, root: &Root, switch: SwitchId, pod: u16) -> Option<SwitchId>
+// The first of the neighbours of an edge switch that is above it, of its pod and linked to the core switch.
+fn first_up(reports: &Reports, root: &Root, alive: &[SwitchId], pod: u16) -> Option<SwitchId>
     requires { IsRoot reports.now root.now }
-    ensures { result ≡ find (λ a. has_pod reports.now a pod && is_alive reports.now a root.now.core) (alive_at_level reports.now switch 1) }
+    ensures { (s : SwitchId) → alive.now ≡ alive_neighbours reports.now s →
+        result ≡ find (λ a. has_pod reports.now a pod && is_alive reports.now a root.now.core) (alive_at_level reports.now s 1) }
 {
-    for neighbour in reports.alive_neighbours(switch) {
+    for neighbour in alive {
         if leads_up(reports, root, *neighbour, pod) {
             return Some(*neighbour);
         }

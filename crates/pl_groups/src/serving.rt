@@ -4,81 +4,56 @@ ghost use Rattle.std.specs.List.Sorted.{IsStrictlySortedBy};
 ghost use Rattle.std.specs.Option.{option_and_then, option_copied};
 ghost use Rattle.pl_frame.specs.declared.address.SwitchId.{SwitchId};
 ghost use Rattle.pl_layouts.specs.Equality.{same_switch};
-ghost use Rattle.pl_node.specs.ManagerViews.{id_cmp, is_alive, place_of};
-ghost use Rattle.pl_groups.specs.Serving.{all_places, all_served, many_served, served_at};
+ghost use Rattle.pl_node.specs.ManagerViews.{Told, alive_neighbours, id_cmp, is_alive};
+ghost use Rattle.pl_reports.specs.Kept.{report_of};
+ghost use Rattle.pl_groups.specs.Serving.{all_served, many_served, served_at};
 
 use crate::place_tests::is_on_level;
 use crate::positions::position;
 use pl_bits::Row;
 use pl_frame::SwitchId;
-use pl_node::{Memory, Place};
-use pl_reports::Reports;
+use pl_node::Memory;
+use pl_reports::{Reports, SwitchReport};
 use std::alloc::Global;
-
-/// The place of each switch that told something, by rising id.
-pub(crate) fn places_of(alloc: Global, reports: &Reports) -> Result<Vec<Place>, Memory>
-    ensures { IfOk result (λ places. places.items ≡ all_places reports.now) }
-{
-    let mut places = Vec::new(alloc);
-    for switch in reports.switches() {
-        places.push(reports.place_of(*switch))?;
-    }
-    Ok(places)
-}
 
 /// Which needed edge switches, which rise, each aggregation switch serves: a row for each switch that told
 /// something, by rising id.
 pub(crate) fn served_edges(
     alloc: Global,
     reports: &Reports,
-    places: &[Place],
     needed: &[SwitchId],
 ) -> Result<Vec<Option<Row>>, Memory>
-    requires places { places.now ≡ all_places reports.now }
-    requires rising { IsStrictlySortedBy id_cmp needed.now }
+    requires { IsStrictlySortedBy id_cmp needed.now }
     ensures { IfOk result (λ served. served.items ≡ all_served reports.now needed.now) }
 {
-    let switches = reports.switches();
     let mut served = Vec::new(alloc);
-    for i in 0..switches.len() {
-        let row = row_at(alloc, reports, needed, switches[i], places[i])?;
+    for report in reports.of_switches() {
+        let row = row_at(alloc, needed, report)?;
         served.push(row)?;
     }
     Ok(served)
 }
 
-// The row of a switch at this place, if it is an aggregation switch.
-fn row_at(
-    alloc: Global,
-    reports: &Reports,
-    needed: &[SwitchId],
-    switch: SwitchId,
-    place: Place,
-) -> Result<Option<Row>, Memory>
-    requires rising { IsStrictlySortedBy id_cmp needed.now }
-    requires place { place ≡ place_of reports.now switch }
-    ensures { IfOk result (λ row. row ≡ served_at reports.now needed.now switch) }
+// The row of a switch that told this, if it is an aggregation switch.
+fn row_at(alloc: Global, needed: &[SwitchId], report: &SwitchReport) -> Result<Option<Row>, Memory>
+    requires { IsStrictlySortedBy id_cmp needed.now }
+    ensures { IfOk result (λ row. (told : Told) (s : SwitchId) → report.now ≡ report_of told s → row ≡ served_at told needed.now s) }
 {
-    if !is_on_level(place, 1) {
+    if !is_on_level(report.place, 1) {
         return Ok(None);
     }
-    let row = row_of(alloc, reports, needed, switch)?;
+    let row = row_of(alloc, needed, report.alive.as_slice())?;
     Ok(Some(row))
 }
 
-// To which needed edge switches a switch has an alive link.
-fn row_of(
-    alloc: Global,
-    reports: &Reports,
-    needed: &[SwitchId],
-    switch: SwitchId,
-) -> Result<Row, Memory>
+// To which needed edge switches a switch with these neighbours has an alive link.
+fn row_of(alloc: Global, needed: &[SwitchId], alive: &[SwitchId]) -> Result<Row, Memory>
     requires { IsStrictlySortedBy id_cmp needed.now }
-    ensures { IfOk result (λ row. row ≡ map (is_alive reports.now switch) needed.now) }
+    ensures { IfOk result (λ row. (told : Told) (s : SwitchId) → alive.now ≡ alive_neighbours told s → row ≡ map (is_alive told s) needed.now) }
 {
     let mut row = Row::new(alloc, needed.len())?;
     let mut near = 0;
-    for neighbour in reports.alive_neighbours(switch) {
+    for neighbour in alive {
         near = mark(&mut row, needed, near, *neighbour);
     }
     Ok(row)

@@ -1,28 +1,33 @@
-ghost use Rattle.std.specs.Prelude.{◌≡◌, if◌then◌else◌, IfOk, IsTrue, None, OnOk};
+ghost use Rattle.std.specs.Prelude.{◌≡◌, [], if◌then◌else◌, IfOk, IsTrue, None, slice_get};
 ghost use Rattle.std.specs.List.{list_any};
-ghost use Rattle.std.specs.Option.{option_and_then, option_copied, option_or};
+ghost use Rattle.std.specs.Option.{option_and_then, option_copied};
 ghost use Rattle.std.specs.List.Sorted.{IsStrictlySortedBy};
 ghost use Rattle.pl_frame.specs.declared.address.SwitchId.{SwitchId};
 ghost use Rattle.pl_layouts.specs.Equality.{same_switch};
-ghost use Rattle.pl_node.specs.ManagerViews.{id_cmp, switches, value_at};
+ghost use Rattle.pl_node.specs.ManagerViews.{id_cmp, switches};
 ghost use Rattle.pl_node.specs.Trees.{core_for, part_under};
-ghost use Rattle.pl_groups.specs.Kept.{part_in_tree};
-ghost use Rattle.pl_groups.specs.Serving.{all_places, all_served, part_of_told};
+ghost use Rattle.pl_groups.specs.Kept.{part_among, part_in_tree};
+ghost use Rattle.pl_groups.specs.Serving.{all_reports, all_served, part_of_told};
 ghost use Rattle.pl_groups.specs.declared.tree.Tree.{Tree};
 
 use crate::cores::core_for;
+use crate::needs::add_all;
 use crate::parts::part_under;
+use crate::positions::position;
 use crate::root::root_at;
-use crate::serving::{places_of, served_edges};
+use crate::serving::served_edges;
 use pl_bits::Row;
 use pl_frame::SwitchId;
-use pl_node::{Memory, Place, TreePart};
-use pl_reports::Reports;
+use pl_node::{Memory, SwitchList, TreePart};
+use pl_reports::{Reports, SwitchReport};
 use std::alloc::Global;
-use std::collections::BTreeMap;
 
-/// The part of each switch that has one.
-pub(crate) type Parts = BTreeMap<SwitchId, TreePart>;
+/// Switches, rising, each with its part, if it has one.
+#[derive(Debug, Drop)]
+pub(crate) struct Parts {
+    pub(crate) switches: SwitchList,
+    pub(crate) parts: Vec<Option<TreePart>>,
+}
 
 /// The tree of a group: its core switch, and the parts.
 #[derive(Debug, Drop)]
@@ -40,12 +45,12 @@ pub(crate) fn make_tree(
 ) -> Result<Tree, Memory>
     requires { IsStrictlySortedBy id_cmp needed.now }
     ensures core { IfOk result (λ tree. tree.core ≡ core_for reports.now group needed.now) }
-    ensures parts { IfOk result (λ tree. (s : SwitchId) → value_at id_cmp tree.parts.entries s ≡ part_of_told reports.now needed.now s tree.core) }
+    ensures parts { IfOk result (λ tree. (s : SwitchId) → part_among tree.parts s ≡ part_of_told reports.now needed.now s tree.core) }
 {
-    let places = places_of(alloc, reports)?;
-    let served = served_edges(alloc, reports, &places, needed)?;
-    let core = core_for(alloc, reports, group, &places, needed, &served)?;
-    let parts = parts_of(alloc, reports, &places, needed, &served, core)?;
+    let all = reports.of_switches();
+    let served = served_edges(alloc, reports, needed)?;
+    let core = core_for(alloc, reports, group, all, needed, &served)?;
+    let parts = parts_of(alloc, reports, all, needed, &served, core)?;
     Ok(Tree { core, parts })
 }
 
@@ -80,19 +85,22 @@ fn has_no_core(tree: Option<&Tree>) -> bool
 fn parts_of(
     alloc: Global,
     reports: &Reports,
-    places: &[Place],
+    all: &[SwitchReport],
     needed: &[SwitchId],
     served: &[Option<Row>],
     core: Option<SwitchId>,
 ) -> Result<Parts, Memory>
-    requires places { places.now ≡ all_places reports.now }
+    requires all { all.now ≡ all_reports reports.now }
     requires rising { IsStrictlySortedBy id_cmp needed.now }
     requires served { served.now ≡ all_served reports.now needed.now }
-    ensures { IfOk result (λ parts. (s : SwitchId) → value_at id_cmp parts.entries s ≡ part_of_told reports.now needed.now s core) }
+    ensures { IfOk result (λ parts. (s : SwitchId) → part_among parts s ≡ part_of_told reports.now needed.now s core) }
 {
     match core {
-        Some(core) => parts_under(alloc, reports, places, needed, served, core),
-        None => Ok(BTreeMap::new(alloc)),
+        Some(core) => parts_under(alloc, reports, all, needed, served, core),
+        None => Ok(Parts {
+            switches: SwitchList::new(alloc),
+            parts: Vec::new(alloc),
+        }),
     }
 }
 
@@ -100,35 +108,64 @@ fn parts_of(
 fn parts_under(
     alloc: Global,
     reports: &Reports,
-    places: &[Place],
+    all: &[SwitchReport],
     needed: &[SwitchId],
     served: &[Option<Row>],
     core: SwitchId,
 ) -> Result<Parts, Memory>
-    requires places { places.now ≡ all_places reports.now }
+    requires all { all.now ≡ all_reports reports.now }
     requires rising { IsStrictlySortedBy id_cmp needed.now }
     requires served { served.now ≡ all_served reports.now needed.now }
-    ensures { IfOk result (λ parts. (s : SwitchId) → value_at id_cmp parts.entries s
+    ensures { IfOk result (λ parts. (s : SwitchId) → part_among parts s
         ≡ (if list_any (same_switch s) (switches reports.now) then part_under reports.now needed.now s core else None)) }
 {
     let root = root_at(alloc, reports, core)?;
     let switches = reports.switches();
-    let mut parts = BTreeMap::new(alloc);
+    let mut list = SwitchList::new(alloc);
+    add_all(&mut list, switches)?;
+    let mut parts = Vec::with_capacity(alloc, switches.len())?;
     for i in 0..switches.len() {
         let switch = switches[i];
-        let part = part_under(alloc, reports, needed, served, &root, switch, places[i])?;
-        keep_part(&mut parts, switch, part)?;
+        let part = part_under(alloc, reports, needed, served, &root, switch, &all[i])?;
+        parts.push(part)?;
     }
-    Ok(parts)
+    Ok(Parts {
+        switches: list,
+        parts,
+    })
 }
 
-// Keeps the part of a switch, if it has one; none was kept of it, or the same.
-fn keep_part(parts: &mut Parts, switch: SwitchId, part: Option<TreePart>) -> Result<(), Memory>
-    ensures { OnOk result ((s : SwitchId) → value_at id_cmp parts.new.entries s
-        ≡ (if same_switch switch s then option_or part (value_at id_cmp parts.old.entries s) else value_at id_cmp parts.old.entries s)) }
-{
-    if let Some(part) = part {
-        parts.insert(switch, part)?;
+impl Parts {
+    pub(crate) fn is_empty(&self) -> bool
+        ensures { IsTrue result → (s : SwitchId) → part_among self.now s ≡ None }
+    {
+        is_none(self.parts.as_slice())
     }
-    Ok(())
+
+    /// The part of a switch, which is looked for at `near` first.
+    pub(crate) fn get(&self, near: usize, switch: SwitchId) -> Option<&TreePart>
+        ensures { option_copied result ≡ part_among self.now switch }
+    {
+        let switches = self.switches.as_slice();
+        let parts = self.parts.as_slice();
+        match position(switches, near, switch) {
+            Some(at) => part_at(parts, at),
+            None => None,
+        }
+    }
+}
+
+fn is_none(parts: &[Option<TreePart>]) -> bool
+    ensures { IsTrue result → parts.now ≡ [] }
+{
+    parts.is_empty()
+}
+
+fn part_at(parts: &[Option<TreePart>], at: usize) -> Option<&TreePart>
+    ensures { option_copied result ≡ option_and_then (λ part. part) (slice_get parts.now at) }
+{
+    match parts.get(at) {
+        Some(part) => part.as_ref(),
+        None => None,
+    }
 }

@@ -2,5 +2,8 @@ pub mod Telling
 pub mod Sorting
 pub mod Liveness
 pub mod Placing
+pub mod Podding
+pub mod Standing
+pub mod Entered
 pub mod KeepingReports
 pub mod Exports

@@ -10,8 +10,8 @@ use Rattle.pl_frame.specs.declared.address.SwitchId.{SwitchId}
 use Rattle.pl_node.specs.ManagerViews.{Told, alive_neighbours, id_cmp, is_alive, is_told_usable, link_cmp, neighbours, value_at}
 use Rattle.pl_node.proofs.Exports.{among_filter, among_filtered, any_among}
 use Rattle.pl_manager_rule.specs.ManagerRule.{with_link}
-use Rattle.pl_manager_rule.proofs.Exports.{id_among, id_is, id_itself, link_exact, near_usable, value_after}
-use Rattle.pl_reports.specs.Kept.{is_living, living_by, near_of, usable_in, with_ends}
+use Rattle.pl_manager_rule.proofs.Exports.{id_among, id_itself, link_exact, near_usable, value_after}
+use Rattle.pl_reports.specs.Kept.{usable_in}
 use Rattle.pl_reports.proofs.Telling.{IsPair, link_total, other_neighbours}
 
 pub not_here : (s t : SwitchId) → is_at (id_cmp s) t ≡ false → s ≡ t → ⊥
@@ -48,22 +48,7 @@ module _ (told : Told) (s u : SwitchId) (usable : Bool) where
           let is : IsPair x y s u = link_exact (x, y) (s, u) ((Equal-is (link_cmp (x, y) (s, u))).0 e) in
           absurd (apart (ap (λ (l : SwitchId × SwitchId). l.0) is, ap (λ (l : SwitchId × SwitchId). l.1) is))
 
-  module _ (near : List (SwitchId × List SwitchId)) (near_is : (t : SwitchId) → near_of near t ≡ neighbours (with_link told s u usable) t) where
-    living_is : (t : SwitchId) → living_by after near t ≡ alive_neighbours (with_link told s u usable) t
-    living_is t = ap (filter (is_living after t)) (near_is t)
-
-    living_elsewhere : (t : SwitchId) → (s ≡ t → ⊥) → (u ≡ t → ⊥) → alive_neighbours told t ≡ alive_neighbours (with_link told s u usable) t
-    living_elsewhere t own other = λ i.
-        filter (λ y. (sym (usable_elsewhere t y (λ p. own (sym p.0))) i) && (sym (usable_elsewhere y t (λ p. other (sym p.1))) i))
-        (sym (other_neighbours told s u usable t own) i)
-
-    pub living_linked : (was living : List (SwitchId × List SwitchId)) → ((t : SwitchId) → near_of was t ≡ alive_neighbours told t) →
-        ((t : SwitchId) → near_of living t ≡ with_ends was (living_by after near) s u t) →
-        (t : SwitchId) → near_of living t ≡ alive_neighbours (with_link told s u usable) t
-    living_linked was living h put t = put t ∙ by (is_at (id_cmp u) t) (is_at (id_cmp s) t) refl refl
-      where
-        by : (b c : Bool) → is_at (id_cmp u) t ≡ b → is_at (id_cmp s) t ≡ c →
-            cond b (living_by after near u) (cond c (living_by after near s) (near_of was t)) ≡ alive_neighbours (with_link told s u usable) t
-        by true c e f = living_is u ∙ ap (alive_neighbours (with_link told s u usable)) (id_is u t e)
-        by false true e f = living_is s ∙ ap (alive_neighbours (with_link told s u usable)) (id_is s t f)
-        by false false e f = h t ∙ living_elsewhere t (not_here s t f) (not_here u t e)
+  pub alive_elsewhere : (t : SwitchId) → (s ≡ t → ⊥) → (u ≡ t → ⊥) → alive_neighbours told t ≡ alive_neighbours (with_link told s u usable) t
+  alive_elsewhere t own other = λ i.
+      filter (λ y. (sym (usable_elsewhere t y (λ p. own (sym p.0))) i) && (sym (usable_elsewhere y t (λ p. other (sym p.1))) i))
+      (sym (other_neighbours told s u usable t own) i)

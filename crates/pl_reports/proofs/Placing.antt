@@ -1,7 +1,7 @@
 -- Which edge switches are placed, and what one more word makes of them.
-use Rattle.std.proofs.Common.{◌≡◌, ◌⊎◌, ℕ, ◌==◌, Bool, true, false, not, cond, List, [], ◌∷◌, map, Option, Some, None, is_some, Ordering, Less, Equal, Greater, refl, sym, ap, ◌∙◌, subst, inl, inr}
+use Rattle.std.proofs.Common.{◌≡◌, ◌⊎◌, ℕ, ◌==◌, Bool, true, false, not, cond, List, [], ◌∷◌, map, Option, Some, None, is_some, Ordering, Less, Equal, Greater, refl, sym, ap, ◌∙◌, subst, inl, inr, Result, Ok, Err, IfErr, length, arith}
 use Rattle.std.specs.Prelude.{unwrap_or}
-use Rattle.std.specs.List.{cons_option, filter, filter_map, list_any}
+use Rattle.std.specs.List.{cons_option, filter, filter_map, insert, list_any}
 use Rattle.std.specs.List.Sorted.{IsStrictlySortedBy}
 use Rattle.std.specs.Ordering.{is_eq, match_ordering}
 use Rattle.std.specs.Map.{keys_of}
@@ -17,9 +17,10 @@ use Rattle.pl_layouts.proofs.Exports.{switch_itself}
 use Rattle.pl_node.specs.ManagerViews.{PlacedEdge, Told, edge_at, edge_with, id_cmp, place_of, placed_edges, switches, tellers, value_at}
 use Rattle.pl_node.proofs.Exports.{among_filter, among_filtered, among_in_order, among_insert, among_left, id_total, IsAmong, rising_inserted}
 use Rattle.pl_manager_rule.specs.ManagerRule.{with_link, with_place}
-use Rattle.pl_manager_rule.proofs.Exports.{found_key, id_exact, id_is, same_is, switches_rise, value_after, value_put}
+use Rattle.pl_manager_rule.proofs.Exports.{found_key, id_among, id_exact, id_is, same_is, switches_rise, value_after, value_put}
 use Rattle.pl_reports.specs.Kept.{with_edge}
 use Rattle.pl_reports.proofs.Liveness.{not_here}
+use Rattle.pl_reports.proofs.Standing.{one_longer}
 use Rattle.pl_node.proofs.Exports.{same_rising}
 use Rattle.pl_reports.proofs.Sorting.{among_put_before, among_put_now, put_in}
 use Rattle.pl_reports.proofs.Telling.{switches_linked, switches_placed}
@@ -194,3 +195,15 @@ without_none s (x ∷ xs) e =
     let rest = without_none s xs parts.1 in
     ap (λ b. cond b (x ∷ filter (λ t. not (same_switch t s)) xs) (filter (λ t. not (same_switch t s)) xs)) (apart_is s x (not_here s x parts.0))
     ∙ ap (λ zs. x ∷ zs) rest
+
+-- a switch that goes into a gap of a list was not there
+pub none_at_gap : (xs : List SwitchId) (s : SwitchId) → IsStrictlySortedBy id_cmp xs → (r : Result ℕ ℕ) →
+    IfErr r (λ at. insert xs at s ≡ insert_key id_cmp xs s) → IfErr r (λ at. list_any (is_at (id_cmp s)) xs ≡ false)
+none_at_gap xs s rising (Ok at) gap = tt
+none_at_gap xs s rising (Err at) gap = by (list_any (is_at (id_cmp s)) xs) refl
+  where
+    by : (b : Bool) → list_any (is_at (id_cmp s)) xs ≡ b → b ≡ false
+    by false e = refl
+    by true e =
+        let same = ap length (gap ∙ insert_nothing xs s rising (id_among s xs e)) in
+        absurd (omega (arith, same, one_longer xs at s))

@@ -2,12 +2,12 @@
 use Rattle.std.proofs.Common.{◌≡◌, ◌⊎◌, Bool, true, false, cond, List, [], ◌∷◌, ◌++◌, map, Some, None, Ordering, Less, Equal, Greater, refl, sym, ap, ◌∙◌, subst, inl, inr}
 use Rattle.std.specs.Prelude.{unwrap_or}
 use Rattle.std.specs.List.{filter}
-use Rattle.std.specs.Ordering.{is_eq, match_ordering}
-use Rattle.std.specs.Cmp.{Equal-is, IsTotalOrder}
+use Rattle.std.specs.Ordering.{match_ordering}
+use Rattle.std.specs.Cmp.{IsTotalOrder}
 use Rattle.std.specs.Map.{keys_of}
 use Rattle.std.specs.BTreeMap.{insert_entry, is_at}
 use Rattle.std.specs.BTreeSet.{insert_key}
-use Rattle.std.proofs.lemmas.Cmp.{on_total, then_total, tied_itself}
+use Rattle.std.proofs.lemmas.Cmp.{on_total, then_total}
 use Rattle.std.proofs.lemmas.Map.Lookups.{CmpEqualImpliesEq}
 use Rattle.pl_frame.specs.declared.address.SwitchId.{SwitchId}
 use Rattle.pl_layouts.specs.declared.place.Place.{Place}
@@ -50,14 +50,14 @@ first_of_key links t h =
     let at = among_map (λ (l : (SwitchId × SwitchId) × Bool). l.0.0) t links h in
     (at.0.0.1, subst (λ z. IsAmong (z, at.0.0.1) (keys_of links)) at.2 (among_mapped (λ (l : (SwitchId × SwitchId) × Bool). l.0) at.0 links at.1))
 
-key_of_first : (links : List ((SwitchId × SwitchId) × Bool)) (t u : SwitchId) → IsAmong (t, u) (keys_of links) → IsAmong t (map (λ l. l.0.0) links)
+pub key_of_first : (links : List ((SwitchId × SwitchId) × Bool)) (t u : SwitchId) → IsAmong (t, u) (keys_of links) → IsAmong t (map (λ l. l.0.0) links)
 key_of_first links t u h =
     let at = among_map (λ (l : (SwitchId × SwitchId) × Bool). l.0) (t, u) links h in
     subst (λ z. IsAmong z (map (λ (l : (SwitchId × SwitchId) × Bool). l.0.0) links)) (ap (λ (k : SwitchId × SwitchId). k.0) at.2)
     (among_mapped (λ (l : (SwitchId × SwitchId) × Bool). l.0.0) at.0 links at.1)
 
 -- a neighbour is the second switch of a link that is in the table
-abbrev near_in : List ((SwitchId × SwitchId) × Bool) → SwitchId → List SwitchId
+abbrev pub near_in : List ((SwitchId × SwitchId) × Bool) → SwitchId → List SwitchId
 near_in links t = map (λ l. l.0.1) (filter (λ l. same_switch l.0.0 t) links)
 
 pub key_of_near : (links : List ((SwitchId × SwitchId) × Bool)) (t u : SwitchId) → IsAmong u (near_in links t) → IsAmong (t, u) (keys_of links)
@@ -155,18 +155,6 @@ module _ (told : Told) (s : SwitchId) where
           | inr j ↦ near_of_key told.links t k j
         ])
         (λ k h. near_of_key links_after t k (key_put t k (inr (key_of_near told.links t k h))))
-
-    pub neighbours_linked : (near : List (SwitchId × List SwitchId)) → ((t : SwitchId) → near_of near t ≡ neighbours told t) →
-        (t : SwitchId) → with_neighbour near s u t ≡ neighbours (with_link told s u usable) t
-    neighbours_linked near kept t = by (is_at (id_cmp s) t) refl
-      where
-        by : (b : Bool) → is_at (id_cmp s) t ≡ b →
-            cond b (insert_key id_cmp (near_of near s) u) (near_of near t) ≡ neighbours (with_link told s u usable) t
-        by true e =
-            let is : s ≡ t = id_exact s t ((Equal-is (id_cmp s t)).0 e) in
-            ap (λ xs. insert_key id_cmp xs u) (kept s) ∙ sym own_neighbours ∙ ap (λ z. neighbours (with_link told s u usable) z) is
-        by false e =
-            kept t ∙ sym (other_neighbours t (λ is. let at : is_eq (id_cmp s t) ≡ true = subst (λ z. is_eq (id_cmp s z) ≡ true) is (ap is_eq (tied_itself id_total s)) in cc))
 
 -- ---- the table of neighbours
 pub near_started : (near after : List (SwitchId × List SwitchId)) (s u : SwitchId) (list : List SwitchId) (t : SwitchId) →

@@ -7,8 +7,12 @@
 
 pub use pl_node::{Memory, SwitchList};
 pub use reports::Reports;
+pub use switch_report::SwitchReport;
 
 mod edges;
+mod entering;
 mod living;
-mod neighbours;
+mod positions;
+mod renewing;
 mod reports;
+mod switch_report;

@@ -1,12 +1,10 @@
 ghost use Rattle.std.specs.Prelude.{◌≡◌, ◌&&◌, IfOk, OnOk, if◌then◌else◌};
-ghost use Rattle.std.specs.BTreeMap.{is_at};
 ghost use Rattle.std.specs.BTreeSet.{insert_key};
-ghost use Rattle.std.specs.List.{list_any};
-ghost use Rattle.pl_frame.specs.declared.address.SwitchId.{SwitchId};
+ghost use Rattle.std.specs.List.{filter};
+ghost use Rattle.std.specs.List.Sorted.{IsStrictlySortedBy};
 ghost use Rattle.pl_node.specs.ManagerViews.{id_cmp};
-ghost use Rattle.pl_reports.specs.Kept.{is_living, living_by, near_of, usable_in};
+ghost use Rattle.pl_reports.specs.Kept.{is_living, usable_in};
 
-use crate::neighbours::{Neighbours, neighbours_in};
 use pl_frame::SwitchId;
 use pl_node::{Memory, SwitchList};
 use std::alloc::Global;
@@ -32,32 +30,18 @@ fn is_living(links: &Links, a: SwitchId, b: SwitchId) -> bool
     is_usable(links, a, b) && is_usable(links, b, a)
 }
 
-/// Puts down anew which neighbours of a switch are over links that are alive.
-pub(crate) fn renew_living(
-    living: &mut Neighbours,
+/// Those neighbours of a switch that are over links that are alive.
+pub(crate) fn living_of(
     alloc: Global,
     links: &Links,
-    near: &Neighbours,
     switch: SwitchId,
-) -> Result<(), Memory>
-    ensures { OnOk result ((t : SwitchId) → near_of living.new.entries t
-        ≡ (if is_at (id_cmp switch) t then living_by links.now.entries near.now.entries switch else near_of living.old.entries t)) }
-{
-    let list = living_of(alloc, links, near, switch)?;
-    living.insert(switch, list)?;
-    Ok(())
-}
-
-fn living_of(
-    alloc: Global,
-    links: &Links,
-    near: &Neighbours,
-    switch: SwitchId,
+    neighbours: &[SwitchId],
 ) -> Result<SwitchList, Memory>
-    ensures { IfOk result (λ list. list ≡ living_by links.now.entries near.now.entries switch) }
+    requires { IsStrictlySortedBy id_cmp neighbours.now }
+    ensures { IfOk result (λ list. list ≡ filter (is_living links.now.entries switch) neighbours.now) }
 {
     let mut list = SwitchList::new(alloc);
-    for neighbour in neighbours_in(near, switch) {
+    for neighbour in neighbours {
         let passes = is_living(links, switch, *neighbour);
         add_if(&mut list, *neighbour, passes)?;
     }
@@ -72,14 +56,4 @@ pub(crate) fn add_if(list: &mut SwitchList, switch: SwitchId, passes: bool) -> R
         list.insert(switch)?;
     }
     Ok(())
-}
-
-/// Whether a switch is among those that are kept of another.
-pub(crate) fn is_among(near: &Neighbours, switch: SwitchId, neighbour: SwitchId) -> bool
-    ensures { result ≡ list_any (is_at (id_cmp neighbour)) (near_of near.now.entries switch) }
-{
-    match near.get(&switch) {
-        Some(list) => list.contains(&neighbour),
-        None => false,
-    }
 }

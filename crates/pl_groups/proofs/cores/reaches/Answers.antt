@@ -9,7 +9,7 @@ pub rank-requires-clause-place : goal.rank-requires-clause-place
 rank-requires-clause-place c =
     let ss = c.switches-switches.result.now in let d : SwitchId = record { 0 = 0 } in
     let within : c.loop-i.i < length ss = omega arith in
-    place_is c.args.reports.now c.args.places.now ss c.loop-i.i _ d c.requires.places c.switches-switches.ensures within
+    place_is c.args.reports.now c.args.all.now ss c.loop-i.i _ d c.requires.all c.switches-switches.ensures within
 
 pub loop-i-preserved : goal.loop-i-preserved
 loop-i-preserved c =

@@ -11,12 +11,12 @@ use Rattle.pl_reports.proofs.Exports.{passing_done, passing_next}
 use Rattle.pl_groups.proofs.Bare.{none_differs}
 use Rattle.pl_groups.proofs.groups.changed.Goals as goal
 
-pub loop-switch-preserved : goal.loop-switch-preserved
-loop-switch-preserved c =
+pub loop-i-preserved : goal.loop-i-preserved
+loop-i-preserved c =
     passing_next (λ (s : SwitchId). not (same_part (part_in_tree (option_copied c.args.before) s) (part_in_tree (Some c.args.after.now) s)))
-    c.switches-switch-items.result.now c.loop-switch.switch-index _ c.loop-switch.changed c.add_if.new.list (not c.same_part-is_same.result)
-    (grind (arith, common_steps)) c.loop-switch.invariant c.in_ok-add_if.ensures
-    (ap not (c.same_part-is_same.ensures ∙ λ i. same_part (c.part_of.ensures i) (c.part_of-in-loop-switch.ensures i)))
+    c.switches-switches.result.now c.loop-i.i _ c.loop-i.changed c.add_if.new.list (not c.same_part-is_same.result)
+    (grind (arith, common_steps)) c.loop-i.invariant c.in_ok-add_if.ensures
+    (ap not (c.same_part-is_same.ensures ∙ λ i. same_part (c.part_of.ensures i) (c.part_of-in-loop-i.ensures i)))
 
 pub returns-then-has_no_parts-2 : goal.returns-then-has_no_parts-2
 returns-then-has_no_parts-2 c =
@@ -27,6 +27,6 @@ returns-then-has_no_parts-2 c =
 pub returns : goal.returns
 returns c =
     let differs : SwitchId → Bool = λ s. not (same_part (part_in_tree (option_copied c.args.before) s) (part_in_tree (Some c.args.after.now) s)) in
-    passing_done differs c.switches-switch-items.result.now c.loop-switch.switch-index c.loop-switch.changed c.loop-switch-test.false c.loop-switch.invariant
-    (subst (IsStrictlySortedBy id_cmp) (sym c.switches-switch-items.ensures) (switches_rise c.args.reports.now))
-    ∙ ap (filter differs) c.switches-switch-items.ensures
+    passing_done differs c.switches-switches.result.now c.loop-i.i c.loop-i.changed c.loop-i-test.false c.loop-i.invariant
+    (subst (IsStrictlySortedBy id_cmp) (sym c.switches-switches.ensures) (switches_rise c.args.reports.now))
+    ∙ ap (filter differs) c.switches-switches.ensures

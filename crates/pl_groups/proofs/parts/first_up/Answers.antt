@@ -7,26 +7,26 @@ use Rattle.pl_groups.proofs.Branches.{found_next, none_next, up_found}
 use Rattle.pl_groups.proofs.parts.first_up.Goals as goal
 
 pub returns-then-leads_up : goal.returns-then-leads_up
-returns-then-leads_up c =
+returns-then-leads_up c s are =
     let told = c.args.reports.now in let core = c.args.root.now.core in
     let leads : SwitchId → Bool = λ a. has_level told a 1 && (has_pod told a c.args.pod && is_alive told a core) in
-    sym (ap (find leads) (sym c.alive_neighbours-neighbour-items.ensures.value)
-    ∙ found_next leads c.alive_neighbours-neighbour-items.result.now c.loop-neighbour.neighbour-index _ (grind (arith, common_steps)) c.loop-neighbour.invariant
+    sym (ap (find leads) (sym are)
+    ∙ found_next leads c.args.alive.now c.loop-neighbour.neighbour-index _ (grind (arith, common_steps)) c.loop-neighbour.invariant
     (sym c.leads_up.ensures ∙ c.if-leads_up.true))
-    ∙ up_found told c.args.switch (λ a. has_pod told a c.args.pod && is_alive told a core)
+    ∙ up_found told s (λ a. has_pod told a c.args.pod && is_alive told a core)
 
 pub loop-neighbour-preserved : goal.loop-neighbour-preserved
 loop-neighbour-preserved c =
     let told = c.args.reports.now in let core = c.args.root.now.core in
     none_next (λ (a : SwitchId). has_level told a 1 && (has_pod told a c.args.pod && is_alive told a core))
-    c.alive_neighbours-neighbour-items.result.now c.loop-neighbour.neighbour-index _ (grind (arith, common_steps)) c.loop-neighbour.invariant
+    c.args.alive.now c.loop-neighbour.neighbour-index _ (grind (arith, common_steps)) c.loop-neighbour.invariant
     (sym c.leads_up.ensures ∙ c.if-leads_up.false)
 
 pub returns : goal.returns
-returns c =
+returns c s are =
     let told = c.args.reports.now in let core = c.args.root.now.core in
     let leads : SwitchId → Bool = λ a. has_level told a 1 && (has_pod told a c.args.pod && is_alive told a core) in
     sym c.loop-neighbour.invariant
-    ∙ ap (find leads) (take_all c.loop-neighbour.neighbour-index c.alive_neighbours-neighbour-items.result.now c.loop-neighbour-test.false
-    ∙ c.alive_neighbours-neighbour-items.ensures.value)
-    ∙ up_found told c.args.switch (λ a. has_pod told a c.args.pod && is_alive told a core)
+    ∙ ap (find leads) (take_all c.loop-neighbour.neighbour-index c.args.alive.now c.loop-neighbour-test.false
+    ∙ are)
+    ∙ up_found told s (λ a. has_pod told a c.args.pod && is_alive told a core)

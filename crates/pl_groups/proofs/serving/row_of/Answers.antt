@@ -12,15 +12,13 @@ loop-neighbour-init c = c.in_ok-row.ensures ∙ splat_is_map c.args.needed.now (
 
 pub loop-neighbour-preserved : goal.loop-neighbour-preserved
 loop-neighbour-preserved c =
-    let us = c.alive_neighbours-neighbour-items.result.now in let i = c.loop-neighbour.neighbour-index in let d : SwitchId = record { 0 = 0 } in
+    let us = c.args.alive.now in let i = c.loop-neighbour.neighbour-index in let d : SwitchId = record { 0 = 0 } in
     c.mark-near.ensures (λ e. list_any (same_switch e) (take i us)) c.loop-neighbour.invariant
     ∙ (λ j. map (λ (e : SwitchId). sym (list_any_more (same_switch e) us i d c.loop-neighbour-test.true) j) c.args.needed.now)
 
 pub returns : goal.returns
-returns c =
-    let told = c.args.reports.now in let s = c.args.switch in
+returns c told s are =
     c.loop-neighbour.invariant
     ∙ (λ j. map (λ (e : SwitchId). list_any (same_switch e)
-    ((take_all c.loop-neighbour.neighbour-index c.alive_neighbours-neighbour-items.result.now c.loop-neighbour-test.false
-    ∙ c.alive_neighbours-neighbour-items.ensures.value) j)) c.args.needed.now)
+    ((take_all c.loop-neighbour.neighbour-index c.args.alive.now c.loop-neighbour-test.false ∙ are) j)) c.args.needed.now)
     ∙ (λ j. map (λ (e : SwitchId). (served_by_neighbours told s e ∙ alive_back told e s) j) c.args.needed.now)

@@ -6,4 +6,4 @@ use Rattle.pl_groups.proofs.serving.row_of.Given as goal
 
 abbrev pub invariant-loop-neighbour : goal.invariant-loop-neighbour
 invariant-loop-neighbour l =
-    l.row ≡ map (λ (e : SwitchId). list_any (same_switch e) (take l.neighbour-index l.neighbour-items)) l.needed
+    l.row ≡ map (λ (e : SwitchId). list_any (same_switch e) (take l.neighbour-index l.alive)) l.needed

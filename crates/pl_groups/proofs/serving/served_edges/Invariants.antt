@@ -3,5 +3,5 @@ use Rattle.pl_node.specs.ManagerViews.{switches}
 use Rattle.pl_groups.specs.Serving.{served_at}
 use Rattle.pl_groups.proofs.serving.served_edges.Given as goal
 
-abbrev pub invariant-loop-i : goal.invariant-loop-i
-invariant-loop-i l = l.served.items ≡ map (served_at l.reports l.needed) (take l.i (switches l.reports))
+abbrev pub invariant-loop-report : goal.invariant-loop-report
+invariant-loop-report l = l.served.items ≡ map (served_at l.reports l.needed) (take l.report-index (switches l.reports))

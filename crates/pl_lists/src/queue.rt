@@ -6,6 +6,9 @@ use std::alloc::Global;
 use std::collections::VecDeque;
 use std::marker::Model;
 
+// An empty queue keeps memory of so many items.
+const KEPT: usize = 32;
+
 /// Items that wait, in the order in which they came: one is put behind the last, and the first is taken.
 /// Contracts see the list of them, the first one first.
 #[derive(Debug, Drop)]
@@ -47,6 +50,15 @@ impl<T> Queue<T> {
         ensures { option_copied result ≡ slice_get self.now n }
     {
         self.items.get(n)
+    }
+
+    /// Gives back the memory of many items where none is there.
+    pub fn give_back(&mut self)
+        ensures { self.new ≡ self.old }
+    {
+        if self.items.is_empty() && self.items.capacity() > KEPT {
+            self.items.shrink_to_fit();
+        }
     }
 
     /// Takes the first item; none where there is none.

@@ -1,8 +1,8 @@
+pub mod Left
 pub mod Indices
 pub mod NextBits
 pub mod Marks
 pub mod QueueArrays
-pub mod Pooled
 pub mod Ranges
 pub mod TallySums
 pub mod TallyChanges

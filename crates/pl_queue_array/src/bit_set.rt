@@ -4,7 +4,7 @@ ghost use Rattle.pl_queue_array.specs.Tallies.{marked_indices};
 
 use crate::tally::Tally;
 use crate::words::WordSet;
-use pl_pool::Memory;
+use pl_lists::Memory;
 use std::alloc::Global;
 use std::marker::Model;
 

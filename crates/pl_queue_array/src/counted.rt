@@ -2,8 +2,7 @@ ghost use Rattle.std.specs.Prelude.{◌≡◌, ◌<◌, ◌≤◌, ◌+◌, ◌+
 ghost use Rattle.pl_queues.specs.Counts.{counted_in, most};
 ghost use Rattle.pl_queues.specs.Queues.{items_at};
 
-use crate::Queues;
-use pl_pool::{Iter, Memory};
+use crate::{Iter, Memory, Queues};
 use pl_queues::Counted;
 use std::alloc::{AllocError, Global};
 use std::marker::Model;

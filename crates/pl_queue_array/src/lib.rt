@@ -3,11 +3,13 @@
 
 pub use bit_set::BitSet;
 pub use counted::{CountedQueues, one_if};
-pub use pl_pool::{Iter, Memory};
+pub use iter::Iter;
+pub use pl_lists::Memory;
 pub use queues::Queues;
 
 mod bit_set;
 mod counted;
+mod iter;
 mod lists;
 mod queues;
 mod tally;

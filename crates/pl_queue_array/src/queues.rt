@@ -2,13 +2,12 @@ ghost use Rattle.std.specs.Prelude.{◌≡◌, ◌↔◌, ◌<◌, ◌≤◌, �
 ghost use Rattle.std.specs.Option.{option_copied};
 ghost use Rattle.pl_queues.specs.Queues.{filled_indices, has_items, items_at, next_filled};
 
-use crate::BitSet;
 use crate::lists::Lists;
-use pl_pool::{Iter, Memory};
+use crate::{BitSet, Iter, Memory};
 use std::alloc::Global;
 use std::marker::Model;
 
-/// A queue array in one pool. Contracts see the list of them, each the list of its items, the first one
+/// A queue array. Contracts see the list of them, each the list of its items, the first one
 /// first. A set of indices says which of them have items, so that the next of these is found at once.
 #[derive(Drop)]
 pub struct Queues<T> {
@@ -116,7 +115,7 @@ impl<T> Queues<T> {
 }
 
 impl<T: Drop> Queues<T> {
-    /// As many empty queues as asked for. More than 2^32 - 1 are as want of memory.
+    /// As many empty queues as asked for.
     pub fn new(alloc: Global, count: usize) -> Result<Queues<T>, Memory>
         ensures { IfOk result (λ queue_array. queue_array ≡ replicate count []) }
     {

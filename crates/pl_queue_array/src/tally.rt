@@ -3,7 +3,7 @@ ghost use Rattle.std.specs.List.{filter, range_with_len};
 ghost use Rattle.pl_queue_array.specs.Tallies.{is_counted, leaves_of, marked_indices, IsSummed};
 
 use crate::counted::one_if;
-use pl_pool::Memory;
+use pl_lists::Memory;
 use std::alloc::{AllocError, Global};
 use std::marker::Model;
 

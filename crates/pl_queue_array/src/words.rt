@@ -3,7 +3,7 @@ ghost use Rattle.pl_bits.specs.Bits.{has_bit, is_set};
 ghost use Rattle.pl_queue_array.specs.Bits.{is_marked, next_marked, IsLeast, IsNextIndex};
 
 use pl_bits::{bit_of, clear_bit, set_bit};
-use pl_pool::Memory;
+use pl_lists::Memory;
 use std::alloc::Global;
 use std::marker::Model;
 

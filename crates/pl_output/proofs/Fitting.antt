@@ -8,12 +8,6 @@ use Rattle.pl_output.specs.Room.{HasRoom, HaveRoom, HaveRoomInTurn}
 use Rattle.pl_output.specs.Saved.{Saving}
 use Rattle.pl_output.proofs.Turns.{AreApart}
 
-pub fits_front : (capacity : Option ℕ) (first : Held) (x y : List ℕ) → FitsBehind capacity first (x ++ y) → FitsBehind capacity first x
-fits_front (Some capacity) (holds bs) x y fits = omega (arith, fits, length-append x y)
-fits_front (Some capacity) absent x y fits = absurd fits
-fits_front (Some capacity) unknown x y fits = absurd fits
-fits_front None first x y fits = absurd fits
-
 full_cut : (capacity : Option ℕ) (first now : Held) (text : List ℕ) (n : ℕ) → n < length text → now ≡ with_end first (take n text) →
     IsFull capacity now → FitsBehind capacity first text → ⊥
 full_cut (Some capacity) (holds bs) now text n short is full fits =

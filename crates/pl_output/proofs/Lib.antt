@@ -3,7 +3,6 @@ pub mod Counting
 pub mod HexPrinting
 pub mod SummaryText
 pub mod Sorted
-pub mod Appended
 pub mod Turns
 pub mod Names
 pub mod Fitting

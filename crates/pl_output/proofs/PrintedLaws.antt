@@ -1,13 +1,12 @@
 -- Printing one text after the other.
 use Rattle.std.proofs.Common.{◌≡◌, ℕ, ◌+◌, ◌<◌, List, [], ◌∷◌, ◌++◌, length, take, drop, get_or, refl, sym, ◌∙◌, ap, subst, append_assoc, arith, length-append}
 use Rattle.std.specs.List.{flat_map}
-use Rattle.std.proofs.lemmas.List.{append-nil, take-append-drop, take_more}
+use Rattle.std.proofs.lemmas.List.{append-nil, take-append-drop, take-append-le, take_more}
 use Rattle.std.proofs.lemmas.List.Concat.{flat_map-append}
 use Rattle.std.proofs.Math.Seq.{take-append-add}
 use Rattle.pl_shelf.specs.Held.{Held, Changes, IsCutOff, with_end}
 use Rattle.pl_shelf.proofs.Exports.{Changes-appended, with_end-none}
 use Rattle.pl_output.specs.Printed.{IsPrinted, BreaksOff}
-use Rattle.pl_output.proofs.Appended.{cut_front}
 
 -- nothing was printed
 pub printed_none : (old : List ℕ → Held) (name piece : List ℕ) → IsPrinted old old name piece piece []
@@ -29,6 +28,15 @@ printed_put old new name p q r x none put = record {
   whole = ap (λ t. t ++ x) (sym (append-nil p) ∙ none.whole) ∙ append_assoc none.sent q x ∙ ap (λ t. none.sent ++ t) (sym put);
   changes = none.changes;
 }
+
+-- a text that was cut off is so as the first part of a longer one
+cut_front : (old new : List ℕ → Held) (name : List ℕ) (first : Held) (x y : List ℕ) → IsCutOff old new name first x →
+    IsCutOff old new name first (x ++ y)
+cut_front old new name first x y cut =
+    let n = cut.0 in
+    let within = cut.1 in
+    let same : take n (x ++ y) ≡ take n x = take-append-le n x y (omega (arith, within)) in
+    (n, omega (arith, within, length-append x y), subst (λ t. Changes old new name (with_end first t)) (sym same) cut.2)
 
 -- what is cut off behind a text that was sent
 cut_behind : (a b c : List ℕ → Held) (name sent text : List ℕ) → Changes a b name (with_end (a name) sent) →

@@ -1,6 +1,7 @@
 -- What stands in a host's inbox.
 use Rattle.std.specs.Prelude.{◌≡◌, ℕ, ◌+◌, ◌==◌, if◌then◌else◌, List, [], ◌∷◌, ◌++◌, Option, None, Some, codes, map, min, slice_get, slice_index_or, slice_set}
-use Rattle.pl_capture.specs.Spelling.{Packet, saved_packet}
+use Rattle.pl_capture.specs.declared.endianness.Endianness.TheVariants.{Little}
+use Rattle.pl_capture.specs.Spelling.{Packet, packet_bytes, saved_packet}
 use Rattle.pl_wiring.specs.declared.host.Host.{Host}
 use Rattle.pl_journal.specs.declared.entry.Entry.{Entry}
 use Rattle.pl_journal.specs.declared.entry.Entry.TheVariants.{Line, Arrived}
@@ -27,6 +28,10 @@ frame_at journal index = frame_in (slice_get journal index)
 -- the packet of a receipt
 abbrev pub packet_at : List Entry → Receipt → Packet
 packet_at journal r = saved_packet r.seconds r.micros (frame_at journal r.entry)
+
+-- its record
+abbrev pub record_of : List Entry → Receipt → List ℕ
+record_of journal r = packet_bytes Little (packet_at journal r)
 
 abbrev pub packets_at : List Entry → List Receipt → List Packet
 packets_at journal receipts = map (packet_at journal) receipts

@@ -33,7 +33,6 @@ pub fn save_all<S: Shelf>(
     texts: Texts,
 ) -> Result<(), Name>
     requires savable { All (IsSavable wiring.now) journal.now }
-    requires piece { texts.piece ≡ [] }
     ensures ok { (out : List ℕ) → AreTexts out wiring.now journal.now texts →
         OnOk result (AreSaved (S.moment shelf.old).held (S.moment shelf.new).held
         (saved_texts out wiring.now journal.now (string_bytes texts.summary))) }
@@ -59,7 +58,6 @@ fn save_in_turn<S: Shelf>(
     texts: Texts,
 ) -> Result<(), Name>
     requires savable { All (IsSavable wiring.now) journal.now }
-    requires piece { texts.piece ≡ [] }
     ensures ok { OnOk result (SavedInTurn (S.moment shelf.old).held
         (savings_of wiring.now journal.now texts) (S.moment shelf.new).held) }
     ensures err { IfErr result (λ name.
@@ -78,7 +76,7 @@ fn save_in_turn<S: Shelf>(
         summary,
         mut piece,
     } = texts;
-    save_captures(shelf, journal, inboxes)?;
+    save_captures(shelf, journal, inboxes, &mut piece)?;
     save_entries(shelf, journal_name, wiring, journal, &mut piece)?;
     save_summary(shelf, output, &summary)
 }
@@ -91,7 +89,6 @@ fn save_entries<S: Shelf>(
     piece: &mut Piece,
 ) -> Result<(), Name>
     requires named { All (IsNamed wiring.now) journal.now }
-    requires piece { piece.old ≡ [] }
     ensures ok { OnOk result (SavesOne (S.moment shelf.old).held (S.moment shelf.new).held
         (record { name = name; text = journal_text wiring.now journal.now })) }
     ensures named { IfErr result (λ told. name ≡ told) }

@@ -103,7 +103,6 @@ fn texts_of<S: SwitchLogic, M: ManagerLogic, H: HostLogic>(
     requires { length captures.now ≡ length network.now.world.plan.hosts }
     ensures are { IfOk result (λ texts. AreTexts out.now network.now.world.plan network.now.world.journal texts) }
     ensures summary { IfOk result (λ texts. string_bytes texts.summary ≡ summary_by (played_over network.now captures.now) is_settled) }
-    ensures piece { IfOk result (λ texts. texts.piece ≡ []) }
 {
     let world = network.world();
     let summary = summary_of(alloc, network, captures, is_settled)?;

@@ -1,3 +1,2 @@
 -- What other crates may name of these proofs.
 pub use Rattle.pl_shelf.proofs.Changed.{Changes-appended, with_end-none}
-pub use Rattle.pl_shelf.proofs.Written.{Written}

@@ -36,7 +36,6 @@ impl Texts {
     ) -> Result<Texts, Memory>
         ensures are { IfOk result (λ texts. AreTexts out.now wiring.now journal.now texts) }
         ensures summary { IfOk result (λ texts. string_bytes texts.summary ≡ string_bytes summary) }
-        ensures piece { IfOk result (λ texts. texts.piece ≡ piece) }
     {
         Ok(Texts {
             inboxes: receive(alloc, out, wiring.hosts(), journal)?,

@@ -70,6 +70,7 @@ FORMS = {
     "linkdown": {"a": str, "b": str},
     "linkup": {"a": str, "b": str},
     "moved": {"host": str, "switch": str, "port": int},
+    "restarted": {"number": int},
     "settled": {"rounds": int},
     "unsettled": {"pending": int},
 }

@@ -107,14 +107,18 @@ CASES = [
     illegal("spent-and-it-is-not", "move", 89, instead("dropped 13 Spent")),
     illegal("bad-arp-and-it-is-none", "move", 89, instead("dropped 13 BadArp")),
     illegal("no-member-and-no-group", "move", 89, instead("dropped 13 NoMember")),
-    # an address is granted once, where the host stands, and of its edge switch; it is registered once, with the next number
+    # an address is granted once, where the host stands, and of its edge switch; it is registered with a number above all before
     illegal("granted-twice", "move", 25, put("granted 00:00:01:00:00:01 c e0.1 0")),
     illegal("granted-at-another-port", "move", 100, swap("d e0.1 1", "d e0.1 0")),
     illegal("granted-where-it-never-stood", "move", 49, swap(" b ", " c ")),
     illegal("granted-with-the-pod-of-another", "move", 100, swap("00:00:01:01:00:01", "00:01:00:01:00:01")),
     illegal("registered-before-it-is-granted", "move", 22, put("registered 00:00:01:00:00:01 2")),
-    illegal("registered-twice", "move", 25, put("registered 00:00:01:00:00:01 3")),
-    illegal("registered-with-a-number-passed-over", "move", 51, swap(" 4", " 5")),
+    illegal("registered-with-its-own-number", "move", 25, put("registered 00:00:01:00:00:01 2")),
+    illegal("registered-with-the-number-of-another", "move", 51, swap(" 4", " 3")),
+    illegal_last("registered-with-a-number-below-the-highest", "move", 25, ["registered 00:00:01:00:00:01 9", "registered 00:00:01:00:00:01 8"]),
+    # the manager begins anew for the first time, the second and so on
+    illegal("restarted-for-the-second-time-at-once", "move", 25, put("restarted 2")),
+    illegal_last("restarted-twice-for-the-first-time", "move", 25, ["restarted 1", "restarted 1"]),
     # an address is freed while it is live; it has no number and no holder until it is granted again
     illegal("freed-and-never-granted", "move", 93, put("freed 00:01:00:01:00:01")),
     illegal_last("freed-twice", "move", 93, ["freed 00:01:00:00:00:01", "freed 00:01:00:00:00:01"]),

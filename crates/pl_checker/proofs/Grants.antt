@@ -1,9 +1,8 @@
 -- An address is granted, registered and freed: when it may be, and what is kept of frames then.
-use Rattle.std.proofs.Common.{◌≡◌, ◌≢◌, ◌↔◌, ℕ, ◌+◌, ◌-◌, ◌≤◌, Bool, true, false, set, List, [], ◌∷◌, length, Option, Some, None, is_some, refl, sym, ap, ap₂, subst, ◌∙◌, arith}
+use Rattle.std.proofs.Common.{◌≡◌, ◌≢◌, ◌↔◌, ℕ, ◌+◌, ◌-◌, ◌≤◌, ◌<◌, Bool, true, false, set, List, [], ◌∷◌, length, Option, Some, None, refl, sym, ap, ap₂, subst, ◌∙◌, arith}
 use Rattle.std.specs.Prelude.{IsTrue}
 use Rattle.std.specs.Option.{option_map}
 use Rattle.std.proofs.lemmas.Bool.{both_ways, eq-eqb, eqb-true, false≢true, ne_eqb}
-use Rattle.pl_lemmas.proofs.Exports.{none_of}
 use Rattle.pl_pmac.specs.declared.pmac.Pmac.{Pmac}
 use Rattle.pl_pmac.specs.Pmac.{pmac_number}
 use Rattle.pl_wiring.specs.declared.label.SwitchNo.{SwitchNo}
@@ -11,7 +10,7 @@ use Rattle.pl_wiring.specs.declared.host.HostNo.{HostNo}
 use Rattle.pl_wiring.specs.Plan.{Plan}
 use Rattle.pl_journal.specs.declared.entry.Entry.{Entry}
 use Rattle.pl_journal.specs.declared.entry.Entry.TheVariants.{Crossed, Freed, Granted, Registered}
-use Rattle.pl_journal.specs.Places.{at_port, has_stood, is_live, is_of_edge, number, registered}
+use Rattle.pl_journal.specs.Places.{at_port, has_stood, highest, is_live, is_of_edge}
 use Rattle.pl_journal.specs.Flights.{address_at, came_in, has_just_crossed, is_flying, is_frame, sender}
 use Rattle.pl_journal.specs.Lossy.{RunTo}
 use Rattle.pl_past.specs.Kept.{granting, kept}
@@ -47,30 +46,13 @@ pub freeable : (plan : Plan) (past : List Entry) (x : Pmac) (n : ℕ) (b : Bool)
 freeable plan past x n b at is = (λ t. (ap (is_live past) (sym at) ∙ sym is ∙ t, tt), λ f. is ∙ ap (is_live past) at ∙ f.0)
 
 module _ (plan : Plan) (past : List Entry) (x : Pmac) (n : ℕ) where
-  pub not_first : n ≡ 0 → IsTrue false ↔ MayFollow plan past (Registered x n)
-  not_first is = (λ t. absurd (false≢true t), λ f. let e = f.0.2 in absurd (omega arith))
+  pub not_above : (top : ℕ) → top ≡ highest past → n ≤ top → IsTrue false ↔ MayFollow plan past (Registered x n)
+  not_above top is low = (λ t. absurd (false≢true t), λ f. let above = f.0.1 in absurd (omega (arith, is, low, above)))
 
-  pub not_next : (count : ℕ) → n ≢ 0 → count ≡ registered past → n - 1 ≢ count → IsTrue false ↔ MayFollow plan past (Registered x n)
-  not_next count some is apart = (λ t. absurd (false≢true t), λ f. let e = f.0.2 in absurd (apart (omega arith)))
-
-  pub numbered_already : (m : ℕ) (o : Option ℕ) → m ≡ pmac_number x → o ≡ number past m → is_some o ≡ true → IsTrue false ↔ MayFollow plan past (Registered x n)
-  numbered_already m o at is some = (
-    λ t. absurd (false≢true t),
-    λ f. absurd (both_ways (is_some o) (ap (λ (q : Option ℕ). is_some q) (is ∙ ap (number past) at ∙ f.0.1)) some),
-  )
-
-  pub registrable : (m count : ℕ) (o : Option ℕ) (live : Bool) → n ≢ 0 → n - 1 ≡ count → count ≡ registered past → m ≡ pmac_number x → o ≡ number past m →
-      is_some o ≡ false →
-      live ≡ is_live past m → IsTrue live ↔ MayFollow plan past (Registered x n)
-  registrable m count o live some next is at numbered none lives = (
-    λ t. (
-      (
-        ap (is_live past) (sym at) ∙ sym lives ∙ t,
-        ap (number past) (sym at) ∙ sym numbered ∙ none_of o none,
-        omega arith,
-      ),
-      tt,
-    ),
+  pub registrable : (m top : ℕ) (live : Bool) → top ≡ highest past → top < n → m ≡ pmac_number x → live ≡ is_live past m →
+      IsTrue live ↔ MayFollow plan past (Registered x n)
+  registrable m top live is above at lives = (
+    λ t. ((ap (is_live past) (sym at) ∙ sym lives ∙ t, omega (arith, is, above)), tt),
     λ f. lives ∙ ap (is_live past) at ∙ f.0.0,
   )
 

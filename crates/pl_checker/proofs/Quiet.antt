@@ -22,6 +22,7 @@ quiet_kept plan text past kept (Line n) quiet keeps = record {
   hosts = keeps.hosts;
   links = keeps.links;
   groups = keeps.groups;
+  restarts = keeps.restarts;
 }
 quiet_kept plan text past kept (Skipped h skip) quiet keeps = record {
   run = (keeps.run, tt);
@@ -33,6 +34,7 @@ quiet_kept plan text past kept (Skipped h skip) quiet keeps = record {
   hosts = keeps.hosts;
   links = keeps.links;
   groups = keeps.groups;
+  restarts = keeps.restarts;
 }
 quiet_kept plan text past kept (Placed s place) quiet keeps = record {
   run = (keeps.run, tt);
@@ -44,6 +46,7 @@ quiet_kept plan text past kept (Placed s place) quiet keeps = record {
   hosts = keeps.hosts;
   links = keeps.links;
   groups = keeps.groups;
+  restarts = keeps.restarts;
 }
 quiet_kept plan text past kept (Settled n) quiet keeps = record {
   run = (keeps.run, tt);
@@ -55,6 +58,7 @@ quiet_kept plan text past kept (Settled n) quiet keeps = record {
   hosts = keeps.hosts;
   links = keeps.links;
   groups = keeps.groups;
+  restarts = keeps.restarts;
 }
 quiet_kept plan text past kept (Unsettled n) quiet keeps = record {
   run = (keeps.run, tt);
@@ -66,5 +70,6 @@ quiet_kept plan text past kept (Unsettled n) quiet keeps = record {
   hosts = keeps.hosts;
   links = keeps.links;
   groups = keeps.groups;
+  restarts = keeps.restarts;
 }
 quiet_kept plan text past kept entry quiet keeps = absurd quiet

@@ -4,7 +4,7 @@ use Rattle.hex.specs.Hex.{IsBytes, encode_lower}
 use Rattle.pl_wiring.specs.Plan.{Plan}
 use Rattle.pl_journal.specs.declared.entry.Entry.{Entry}
 use Rattle.pl_journal.specs.declared.entry.Entry.TheVariants.{Arrived, Line, Made, Placed, Sent, Settled, Skipped, Unsettled}
-use Rattle.pl_journal.specs.Places.{is_adjacent}
+use Rattle.pl_journal.specs.Places.{is_adjacent, restarts}
 use Rattle.pl_journal.specs.Flights.{has_just_crossed, is_frame}
 use Rattle.pl_journal.specs.Lossy.{CrossesWell, Needs, RunTo}
 use Rattle.pl_past.specs.Links.{is_live_since, live_since}
@@ -31,6 +31,7 @@ pub record Keeps (plan : Plan) (text : List ℕ) (past : List Entry) (kept : Pas
   pub hosts : KeepsHosts plan past kept.hosts
   pub links : KeepsLinks past kept.links
   pub groups : KeepsGroups plan past kept.groups
+  pub restarts : kept.restarts ≡ restarts past
 
 -- the digits of the frame that an entry begins stand in the text from this place on
 abbrev pub HasDigits : List ℕ → ℕ → Entry → Type 0

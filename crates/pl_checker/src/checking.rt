@@ -49,6 +49,7 @@ impl Past {
             }
             Entry::Registered(x, n) => Ok(self.may_register(wiring, *x, *n)),
             Entry::Freed(x) => Ok(self.may_free(wiring, *x)),
+            Entry::Restarted(number) => Ok(self.may_restart(wiring, *number)),
             Entry::LinkDown(a, b) => Ok(self.may_fail(wiring, *a, *b)),
             Entry::LinkUp(a, b) => Ok(self.may_repair(wiring, *a, *b)),
             Entry::Moved(host, edge, port) => {
@@ -141,6 +142,10 @@ impl Past {
             }
             Entry::Freed(x) => {
                 self.free(wiring, n, *x)?;
+                Ok(())
+            }
+            Entry::Restarted(number) => {
+                self.restart(wiring, *number);
                 Ok(())
             }
             Entry::LinkDown(a, b) => {

@@ -1,7 +1,7 @@
-//! A host moves, a link fails or is repaired.
+//! A host moves, a link fails or is repaired, the fabric manager begins anew.
 ghost use Rattle.std.specs.Prelude.{◌≡◌, ◌↔◌, ◌+◌, ◌∷◌, List, ℕ, IsTrue, OnOk, length};
 ghost use Rattle.pl_journal.specs.declared.entry.Entry.{Entry};
-ghost use Rattle.pl_journal.specs.declared.entry.Entry.TheVariants.{LinkDown, LinkUp, Moved};
+ghost use Rattle.pl_journal.specs.declared.entry.Entry.TheVariants.{LinkDown, LinkUp, Moved, Restarted};
 ghost use Rattle.pl_checker.specs.Past.{Keeps, MayFollow};
 
 use crate::past::Past;
@@ -46,6 +46,16 @@ impl Past {
         self.links.is_failed(a, b)
     }
 
+    pub(crate) fn may_restart(&self, wiring: &Wiring, number: u32) -> bool
+        ensures { (text : List ℕ) (past : List Entry) → Keeps wiring.now text past self.now →
+            (IsTrue result ↔ MayFollow wiring.now past (Restarted number)) }
+    {
+        if number == 0 {
+            return false;
+        }
+        number - 1 == self.restarts
+    }
+
     /// A host moves by entry `n`.
     pub(crate) fn go(
         &mut self,
@@ -86,5 +96,14 @@ impl Past {
         self.links.repair(a, b, n)?;
         self.just = None;
         Ok(())
+    }
+
+    /// The fabric manager begins anew.
+    pub(crate) fn restart(&mut self, wiring: &Wiring, number: u32)
+        ensures { (text : List ℕ) (past : List Entry) → Keeps wiring.now text past self.old →
+            MayFollow wiring.now past (Restarted number) → Keeps wiring.now text (Restarted number ∷ past) self.new }
+    {
+        self.restarts = number;
+        self.just = None;
     }
 }

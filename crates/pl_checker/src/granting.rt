@@ -80,17 +80,10 @@ impl Past {
         ensures { (text : List ℕ) (past : List Entry) → Keeps wiring.now text past self.now →
             (IsTrue result ↔ MayFollow wiring.now past (Registered x n)) }
     {
-        let address = number_of(x);
-        if n == 0 {
+        if n <= self.addresses.highest() {
             return false;
         }
-        if n - 1 != self.addresses.registered() {
-            return false;
-        }
-        if self.addresses.number(address).is_some() {
-            return false;
-        }
-        self.holders.is_live(address)
+        self.holders.is_live(number_of(x))
     }
 
     /// An address is registered.

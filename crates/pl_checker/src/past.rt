@@ -15,6 +15,7 @@ pub struct Past {
     pub(crate) hosts: Hosts,
     pub(crate) links: Links,
     pub(crate) groups: Groups,
+    pub(crate) restarts: u32,
     pub(crate) just: Option<u64>,
 }
 
@@ -31,6 +32,7 @@ impl Past {
             hosts,
             links: Links::new(alloc),
             groups: Groups::new(alloc),
+            restarts: 0,
             just: None,
         })
     }

@@ -1,5 +1,5 @@
 -- Addresses: their holders, their ports and their numbers.
-use Rattle.std.proofs.Common.{◌≡◌, ◌≢◌, ℕ, ◌≤◌, Bool, true, false, cond, not, ◌||◌, ◌==◌, List, [], ◌∷◌, ◌++◌, Option, Some, None, is_some, IsSome, refl, sym, ap, ◌∙◌, inl, inr, arith}
+use Rattle.std.proofs.Common.{◌≡◌, ◌≢◌, ℕ, max, ◌≤◌, Bool, true, false, cond, not, ◌||◌, ◌==◌, List, [], ◌∷◌, ◌++◌, Option, Some, None, is_some, IsSome, IsSomeAnd, refl, subst, sym, ap, ◌∙◌, inl, inr, arith}
 use Rattle.std.proofs.lemmas.Bool.{and_from, and_parts, both_ways, cases_Bool, cond-false, cond-true, eq-eqb, eqb-true, ne_eqb, not_from_false, or_parts, or_right}
 use Rattle.std.proofs.lemmas.Option.{none-some, same_Some}
 use Rattle.pl_pmac.specs.declared.pmac.Pmac.{Pmac}
@@ -9,7 +9,7 @@ use Rattle.pl_wiring.specs.declared.host.HostNo.{HostNo}
 use Rattle.pl_wiring.specs.Plan.{Plan}
 use Rattle.pl_journal.specs.declared.entry.Entry.{Entry}
 use Rattle.pl_journal.specs.declared.entry.Entry.TheVariants.{Freed, Granted, Registered}
-use Rattle.pl_journal.specs.Places.{EdgePort, are_freed, at_port, holder, is_live, number, registered, edge_port}
+use Rattle.pl_journal.specs.Places.{EdgePort, are_freed, at_port, highest, holder, is_live, number, edge_port}
 use Rattle.pl_journal.specs.Lossy.{RunTo}
 
 pub holder_of_granted : (past : List Entry) (x : Pmac) (host : HostNo) (edge : SwitchNo) (port : ℕ) →
@@ -101,22 +101,6 @@ edge_port_stays plan (Granted y h e p ∷ newer) past x run kept live =
 edge_port_stays plan (Freed y ∷ newer) past x run kept live = edge_port_stays plan newer past x run.0 (or_parts (pmac_number y == x) (are_freed newer x) kept).1 live
 edge_port_stays plan (entry ∷ newer) past x run kept live = edge_port_stays plan newer past x run.0 kept live
 
-pub number_stays : (plan : Plan) (newer past : List Entry) (x n : ℕ) → RunTo plan (newer ++ past) → are_freed newer x ≡ false → is_live past x ≡ true →
-    number past x ≡ Some n → number (newer ++ past) x ≡ Some n
-number_stays plan [] past x n run kept live has = has
-number_stays plan (Granted y h e p ∷ newer) past x n run kept live has =
-    let other = granted_apart (newer ++ past) (pmac_number y) x run.1.fresh (live_stays plan newer past x run.0 kept live) in
-    cond-false (pmac_number y == x) None (number (newer ++ past) x) other ∙ number_stays plan newer past x n run.0 kept live has
-number_stays plan (Registered y m ∷ newer) past x n run kept live has =
-    let before = number_stays plan newer past x n run.0 kept live has in
-    elim (cases_Bool (pmac_number y == x)) [
-      | inl same ↦ absurd (none-some n (sym run.1.1 ∙ ap (number (newer ++ past)) (eqb-true (pmac_number y) x same) ∙ before))
-      | inr other ↦ cond-false (pmac_number y == x) (Some m) (number (newer ++ past) x) other ∙ before
-    ]
-number_stays plan (Freed y ∷ newer) past x n run kept live has =
-    number_stays plan newer past x n run.0 (or_parts (pmac_number y == x) (are_freed newer x) kept).1 live has
-number_stays plan (entry ∷ newer) past x n run kept live has = number_stays plan newer past x n run.0 kept live has
-
 -- a number is not of an address that has just been granted
 number_before : (past : List Entry) (y : Pmac) (h : HostNo) (e : SwitchNo) (p x n : ℕ) → number (Granted y h e p ∷ past) x ≡ Some n → number past x ≡ Some n
 number_before past y h e p x n has = elim (cases_Bool (pmac_number y == x)) [
@@ -124,19 +108,56 @@ number_before past y h e p x n has = elim (cases_Bool (pmac_number y == x)) [
   | inr other ↦ sym (cond-false (pmac_number y == x) None (number past x) other) ∙ has
 ]
 
-pub number_within : (plan : Plan) (past : List Entry) (x n : ℕ) → RunTo plan past → number past x ≡ Some n → (1 ≤ n) × (n ≤ registered past)
+-- a registration raises the highest number
+raised : (m n : ℕ) → (m ≤ max m n) × (n ≤ max m n)
+raised m n = (omega arith, omega arith)
+
+pub number_within : (plan : Plan) (past : List Entry) (x n : ℕ) → RunTo plan past → number past x ≡ Some n → (1 ≤ n) × (n ≤ highest past)
 number_within plan [] x n run has = absurd (none-some n has)
 number_within plan (Registered y m ∷ past) x n run has = elim (cases_Bool (pmac_number y == x)) [
   | inl same ↦
       let e : m ≡ n = same_Some m n (sym (cond-true (pmac_number y == x) (Some m) (number past x) same) ∙ has) in
-      let next = run.1.2 in
-      (omega arith, omega arith)
+      let above = run.1.1 in
+      let most = (raised (highest past) m).1 in
+      let within : n ≤ max (highest past) m = omega (arith, e, most) in
+      (omega (arith, e, above), within)
   | inr other ↦
       let before = number_within plan past x n run.0 (sym (cond-false (pmac_number y == x) (Some m) (number past x) other) ∙ has) in
-      (before.0, omega arith)
+      let most = before.1 in
+      let more = (raised (highest past) m).0 in
+      let within : n ≤ max (highest past) m = omega (arith, most, more) in
+      (before.0, within)
 ]
 number_within plan (Granted y h e p ∷ past) x n run has = number_within plan past x n run.0 (number_before past y h e p x n has)
 number_within plan (entry ∷ past) x n run has = number_within plan past x n run.0 has
+
+-- a number is followed by larger ones alone
+abbrev IsFrom : ℕ → Option ℕ → Type 0
+IsFrom n o = IsSomeAnd o (λ m. n ≤ m)
+
+pub number_rises : (plan : Plan) (newer past : List Entry) (x n : ℕ) → RunTo plan (newer ++ past) → are_freed newer x ≡ false → is_live past x ≡ true →
+    number past x ≡ Some n → IsFrom n (number (newer ++ past) x)
+number_rises plan [] past x n run kept live has = subst (IsFrom n) (sym has) (omega arith)
+number_rises plan (Granted y h e p ∷ newer) past x n run kept live has =
+    let other = granted_apart (newer ++ past) (pmac_number y) x run.1.fresh (live_stays plan newer past x run.0 kept live) in
+    subst (IsFrom n) (sym (cond-false (pmac_number y == x) None (number (newer ++ past) x) other)) (number_rises plan newer past x n run.0 kept live has)
+number_rises plan (Registered y m ∷ newer) past x n run kept live has =
+    let before = number_rises plan newer past x n run.0 kept live has in
+    elim (cases_Bool (pmac_number y == x)) [
+      | inl same ↦
+          subst (IsFrom n) (sym (cond-true (pmac_number y == x) (Some m) (number (newer ++ past) x) same)) (above (number (newer ++ past) x) refl before)
+      | inr other ↦ subst (IsFrom n) (sym (cond-false (pmac_number y == x) (Some m) (number (newer ++ past) x) other)) before
+    ]
+  where
+    above : (o : Option ℕ) → number (newer ++ past) x ≡ o → IsFrom n o → n ≤ m
+    above None is before = absurd before
+    above (Some k) is before =
+        let most = (number_within plan (newer ++ past) x k run.0 is).1 in
+        let larger = run.1.1 in
+        omega (arith, before, most, larger)
+number_rises plan (Freed y ∷ newer) past x n run kept live has =
+    number_rises plan newer past x n run.0 (or_parts (pmac_number y == x) (are_freed newer x) kept).1 live has
+number_rises plan (entry ∷ newer) past x n run kept live has = number_rises plan newer past x n run.0 kept live has
 
 pub number_granted : (plan : Plan) (past : List Entry) (x n : ℕ) → RunTo plan past → number past x ≡ Some n → IsSome (holder past x)
 number_granted plan [] x n run has = absurd (none-some n has)
@@ -174,7 +195,7 @@ numbers_apart plan (Registered z m ∷ past) x y n run has also_has = elim (case
     before w other h = sym (cond-false (pmac_number z == w) (Some m) (number past w) other) ∙ h
 
     not_both : (w : ℕ) → m ≡ n → number past w ≡ Some n → ⊥
-    not_both w same old = let within = number_within plan past w n run.0 old in let next = run.1.2 in omega arith
+    not_both w same old = let within = (number_within plan past w n run.0 old).1 in let above = run.1.1 in omega (arith, same, within, above)
 numbers_apart plan (Granted z h e p ∷ past) x y n run has also_has =
     numbers_apart plan past x y n run.0 (number_before past z h e p x n has) (number_before past z h e p y n also_has)
 numbers_apart plan (entry ∷ past) x y n run has also_has = numbers_apart plan past x y n run.0 has also_has

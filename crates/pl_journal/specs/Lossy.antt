@@ -11,10 +11,10 @@ use Rattle.pl_pmac.specs.Pmac.{pmac_number, mac_of}
 use Rattle.pl_wiring.specs.Plan.{Plan}
 use Rattle.pl_layouts.specs.declared.membership.Change.{Change}
 use Rattle.pl_journal.specs.declared.entry.Entry.{Entry}
-use Rattle.pl_journal.specs.declared.entry.Entry.TheVariants.{Line, Sent, Skipped, Made, Crossed, Redirected, Copied, Arrived, Taken, Dropped, Granted, Registered, Freed, Placed, LinkDown, LinkUp, Moved, Settled, Unsettled}
+use Rattle.pl_journal.specs.declared.entry.Entry.TheVariants.{Line, Sent, Skipped, Made, Crossed, Redirected, Copied, Arrived, Taken, Dropped, Granted, Registered, Freed, Placed, LinkDown, LinkUp, Moved, Restarted, Settled, Unsettled}
 use Rattle.pl_layouts.specs.Memberships.{group_of, group_number, changes_in, flood}
 use Rattle.pl_layouts.specs.Frames.{mac_number, arriving, is_takeable}
-use Rattle.pl_journal.specs.Places.{EdgePort, at_port, is_at, holder, is_live, edge_port, edge_port_of, has_stood, is_free, is_of_edge, number, registered, is_adjacent, is_failed}
+use Rattle.pl_journal.specs.Places.{EdgePort, at_port, is_at, holder, is_live, edge_port, edge_port_of, has_stood, is_free, is_of_edge, highest, number, restarts, is_adjacent, is_failed}
 use Rattle.pl_journal.specs.Flights.{address, addressee, beginning, begun, first_of, is_flying, is_good_leg, is_led_to, is_redirected, leg, root, root_arrived_at, sender, sender_address}
 use Rattle.pl_journal.specs.Causes.{CauseShows, goes_to_group}
 
@@ -134,10 +134,11 @@ Needs plan past (Taken id s) = IsTrue (is_flying past id) × IsTakenBy past id s
 Needs plan past (Dropped id cause) = IsTrue (is_flying past id) × CauseShows plan past id cause
 Needs plan past (Granted x h e p) = IsGrantable plan past x h.0 (at_port e.0 p)
 Needs plan past (Freed x) = IsTrue (is_live past (pmac_number x))
-Needs plan past (Registered x n) = IsTrue (is_live past (pmac_number x)) × (number past (pmac_number x) ≡ None) × (n ≡ registered past + 1)
+Needs plan past (Registered x n) = IsTrue (is_live past (pmac_number x)) × (highest past < n)
 Needs plan past (Moved h e p) = IsSome (slice_get plan.hosts h.0) × IsTrue (is_free plan past (at_port e.0 p))
 Needs plan past (LinkDown x y) = IsLink plan past x.0 y.0 false
 Needs plan past (LinkUp x y) = IsLink plan past x.0 y.0 true
+Needs plan past (Restarted n) = n ≡ restarts past + 1
 Needs plan past (Line n) = Unit {0}
 Needs plan past (Skipped h skip) = Unit {0}
 Needs plan past (Placed s place) = Unit {0}

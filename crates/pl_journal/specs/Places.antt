@@ -1,6 +1,6 @@
 -- What a journal says of the fabric itself: where hosts stand, which addresses they were granted, and which links are failed.
 -- The entries that are past are taken here with the newest first.
-use Rattle.std.specs.Prelude.{ℕ, ◌+◌, ◌==◌, ◌&&◌, ◌||◌, not, zero, suc, nat_lt, Bool, true, false, if◌then◌else◌, List, [], ◌∷◌, length, Option, Some, None, slice_get}
+use Rattle.std.specs.Prelude.{ℕ, ◌+◌, ◌==◌, ◌&&◌, ◌||◌, not, zero, suc, max, nat_lt, Bool, true, false, if◌then◌else◌, List, [], ◌∷◌, length, Option, Some, None, slice_get}
 use Rattle.std.specs.List.{list_any}
 use Rattle.std.specs.Option.{option_map}
 use Rattle.pl_pmac.specs.declared.pmac.Pmac.{Pmac}
@@ -11,7 +11,7 @@ use Rattle.pl_wiring.specs.Labels.{edge_count}
 use Rattle.pl_wiring.specs.Plan.{Plan}
 use Rattle.pl_wiring.specs.Peers.{peer_of}
 use Rattle.pl_journal.specs.declared.entry.Entry.{Entry}
-use Rattle.pl_journal.specs.declared.entry.Entry.TheVariants.{Freed, Granted, Registered, LinkDown, LinkUp, Moved}
+use Rattle.pl_journal.specs.declared.entry.Entry.TheVariants.{Freed, Granted, Registered, LinkDown, LinkUp, Moved, Restarted}
 
 -- a port of an edge switch
 pub record EdgePort : Type 0 where
@@ -118,17 +118,24 @@ are_live_there live (Granted y h e p ∷ entries) there =
     (not (same_edge_port (at_port e.0 p) there) || live (pmac_number y)) && are_live_there live entries there
 are_live_there live (entry ∷ entries) there = are_live_there live entries there
 
--- the registration number that an address was given since it was granted last
+-- the registration number that an address was given last since it was granted last
 abbrev pub number : List Entry → ℕ → Option ℕ
 number [] x = None
 number (Granted y h e p ∷ past) x = if pmac_number y == x then None else number past x
 number (Registered y n ∷ past) x = if pmac_number y == x then Some n else number past x
 number (entry ∷ past) x = number past x
 
-abbrev pub registered : List Entry → ℕ
-registered [] = 0
-registered (Registered y n ∷ past) = registered past + 1
-registered (entry ∷ past) = registered past
+-- the largest number that was given to an address, 0 before the first
+abbrev pub highest : List Entry → ℕ
+highest [] = 0
+highest (Registered y n ∷ past) = max (highest past) n
+highest (entry ∷ past) = highest past
+
+-- how often the fabric manager began anew
+abbrev pub restarts : List Entry → ℕ
+restarts [] = 0
+restarts (Restarted n ∷ past) = restarts past + 1
+restarts (entry ∷ past) = restarts past
 
 abbrev pub same_ends : ℕ → ℕ → ℕ → ℕ → Bool
 same_ends x y a b = ((x == a) && (y == b)) || ((x == b) && (y == a))

@@ -3,7 +3,7 @@ use Rattle.std.specs.Prelude.{◌<◌, ◌≤◌, ◌^◌, ℕ, List, length, Op
 use Rattle.hex.specs.Hex.{IsBytes}
 use Rattle.pl_pmac.specs.Pmac.{PmacFits}
 use Rattle.pl_journal.specs.declared.entry.Entry.{Entry}
-use Rattle.pl_journal.specs.declared.entry.Entry.TheVariants.{Line, Sent, Skipped, Made, Crossed, Redirected, Copied, Arrived, Taken, Dropped, Granted, Registered, Freed, Placed, LinkDown, LinkUp, Moved, Settled, Unsettled}
+use Rattle.pl_journal.specs.declared.entry.Entry.TheVariants.{Line, Sent, Skipped, Made, Crossed, Redirected, Copied, Arrived, Taken, Dropped, Granted, Registered, Freed, Placed, LinkDown, LinkUp, Moved, Restarted, Settled, Unsettled}
 
 -- numbers of 64, 32 and 8 bits
 abbrev pub IsLong : ℕ → Type 0
@@ -43,5 +43,6 @@ Fits (Placed switch place) = IsPart (2 ^ 8) place.level × (IsPart (2 ^ 8) place
 Fits (LinkDown a b) = Unit {0}
 Fits (LinkUp a b) = Unit {0}
 Fits (Moved host edge port) = IsByte port
+Fits (Restarted number) = IsCount number
 Fits (Settled rounds) = IsCount rounds
 Fits (Unsettled pending) = IsLong pending

@@ -14,7 +14,7 @@ use Rattle.pl_journal.specs.declared.cause.Skip.{Skip}
 use Rattle.pl_journal.specs.declared.cause.Skip.TheVariants as skips
 use Rattle.pl_layouts.specs.declared.place.Place.{Place}
 use Rattle.pl_journal.specs.declared.entry.Entry.{Entry}
-use Rattle.pl_journal.specs.declared.entry.Entry.TheVariants.{Line, Sent, Skipped, Made, Crossed, Redirected, Copied, Arrived, Taken, Dropped, Granted, Registered, Freed, Placed, LinkDown, LinkUp, Moved, Settled, Unsettled}
+use Rattle.pl_journal.specs.declared.entry.Entry.TheVariants.{Line, Sent, Skipped, Made, Crossed, Redirected, Copied, Arrived, Taken, Dropped, Granted, Registered, Freed, Placed, LinkDown, LinkUp, Moved, Restarted, Settled, Unsettled}
 use Rattle.pl_journal.specs.declared.words.Field.{Field}
 use Rattle.pl_journal.specs.declared.words.Field.TheVariants.{Number, Unknown, Address, Switch, Text, Bytes}
 use Rattle.pl_journal.specs.declared.words.Words.{Words}
@@ -78,6 +78,7 @@ words_of plan (Placed switch place) = codes "placed" ∷ switch_text plan switch
 words_of plan (LinkDown a b) = codes "linkdown" ∷ switch_text plan a.0 ∷ switch_text plan b.0 ∷ []
 words_of plan (LinkUp a b) = codes "linkup" ∷ switch_text plan a.0 ∷ switch_text plan b.0 ∷ []
 words_of plan (Moved host edge port) = codes "moved" ∷ host_text plan host.0 ∷ switch_text plan edge.0 ∷ decimal port ∷ []
+words_of plan (Restarted number) = codes "restarted" ∷ decimal number ∷ []
 words_of plan (Settled rounds) = codes "settled" ∷ decimal rounds ∷ []
 words_of plan (Unsettled pending) = codes "unsettled" ∷ decimal pending ∷ []
 

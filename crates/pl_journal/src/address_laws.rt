@@ -1,4 +1,4 @@
-ghost use Rattle.std.specs.Prelude.{◌≡◌, ◌≢◌, ℕ, ◌≤◌, List, ◌∷◌, ◌++◌, Some, IsSome, false, is_some, true};
+ghost use Rattle.std.specs.Prelude.{◌≡◌, ◌≢◌, ℕ, ◌≤◌, List, ◌∷◌, ◌++◌, Some, IsSome, IsSomeAnd, false, is_some, true};
 ghost use Rattle.pl_pmac.specs.declared.pmac.Pmac.{Pmac};
 ghost use Rattle.pl_pmac.specs.Pmac.{pmac_number};
 ghost use Rattle.pl_wiring.specs.declared.label.SwitchNo.{SwitchNo};
@@ -6,7 +6,7 @@ ghost use Rattle.pl_wiring.specs.declared.host.HostNo.{HostNo};
 ghost use Rattle.pl_wiring.specs.Plan.{Plan};
 ghost use Rattle.pl_journal.specs.declared.entry.Entry.{Entry};
 ghost use Rattle.pl_journal.specs.declared.entry.Entry.TheVariants.{Granted, Registered};
-ghost use Rattle.pl_journal.specs.Places.{at_port, are_freed, holder, is_live, number, registered, edge_port};
+ghost use Rattle.pl_journal.specs.Places.{at_port, are_freed, highest, holder, is_live, number, edge_port};
 ghost use Rattle.pl_journal.specs.Flights.{held_at_crossing, is_begun, is_crossed};
 ghost use Rattle.pl_journal.specs.Lossy.{RunTo};
 
@@ -33,7 +33,7 @@ pub fn a_registration_gives_a_number()
         number (Registered x n ∷ past) y ≡ number past y }
 {}
 
-/// In a run a live address keeps its holder, its port and its number, whatever follows, until it is freed.
+/// In a run a live address keeps its holder and its port, whatever follows, until it is freed; its number may rise.
 pub fn a_live_address_stays_with_its_host()
     ensures live { (plan : Plan) (newer past : List Entry) (x : ℕ) → RunTo plan (newer ++ past) →
         are_freed newer x ≡ false → is_live past x ≡ true → is_live (newer ++ past) x ≡ true }
@@ -43,14 +43,14 @@ pub fn a_live_address_stays_with_its_host()
         are_freed newer x ≡ false → is_live past x ≡ true → edge_port (newer ++ past) x ≡ edge_port past x }
     ensures number { (plan : Plan) (newer past : List Entry) (x n : ℕ) → RunTo plan (newer ++ past) →
         are_freed newer x ≡ false → is_live past x ≡ true → number past x ≡ Some n →
-        number (newer ++ past) x ≡ Some n }
+        IsSomeAnd (number (newer ++ past) x) (λ m. n ≤ m) }
 {}
 
-/// In a run the numbers of registered addresses are 1 to their count, no two are equal, and each of
+/// In a run the numbers of registered addresses lie between 1 and the highest, no two are equal, and each of
 /// the addresses was granted.
 pub fn registered_addresses_have_numbers_of_their_own()
     ensures within { (plan : Plan) (past : List Entry) (x n : ℕ) → RunTo plan past →
-        number past x ≡ Some n → (1 ≤ n) × (n ≤ registered past) }
+        number past x ≡ Some n → (1 ≤ n) × (n ≤ highest past) }
     ensures apart { (plan : Plan) (past : List Entry) (x y n : ℕ) → RunTo plan past →
         number past x ≡ Some n → number past y ≡ Some n → x ≡ y }
     ensures granted { (plan : Plan) (past : List Entry) (x n : ℕ) → RunTo plan past →

@@ -43,6 +43,8 @@ pub enum Entry {
     LinkUp(SwitchNo, SwitchNo),
     /// A host moves to a port of an edge switch.
     Moved(HostNo, SwitchNo, u8),
+    /// The fabric manager begins anew, and knows nothing: this is its so many-th restart.
+    Restarted(u32),
     /// The fabric is settled, after this many rounds.
     Settled(u32),
     /// The fabric is not settled; so many items are pending.

@@ -35,6 +35,7 @@ impl Entry {
             Entry::LinkDown(a, b) => two("linkdown", label(wiring, *a), label(wiring, *b)),
             Entry::LinkUp(a, b) => two("linkup", label(wiring, *a), label(wiring, *b)),
             Entry::Moved(host, edge, port) => moved(wiring, *host, *edge, *port),
+            Entry::Restarted(n) => one("restarted", count(*n)),
             Entry::Settled(rounds) => one("settled", count(*rounds)),
             Entry::Unsettled(pending) => one("unsettled", number(*pending)),
         }

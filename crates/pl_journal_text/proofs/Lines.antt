@@ -11,7 +11,7 @@ use Rattle.pl_wiring.specs.declared.label.SwitchNo.{SwitchNo}
 use Rattle.pl_wiring.specs.Plan.{IsPlan, Plan}
 use Rattle.pl_journal.specs.Text.{address_text, cause_text, host_text, journal_text, line_of, part_text, skip_text, switch_text}
 use Rattle.pl_journal.specs.declared.entry.Entry.{Entry}
-use Rattle.pl_journal.specs.declared.entry.Entry.TheVariants.{Line, Sent, Skipped, Made, Crossed, Redirected, Copied, Arrived, Taken, Dropped, Granted, Registered, Freed, Placed, LinkDown, LinkUp, Moved, Settled, Unsettled}
+use Rattle.pl_journal.specs.declared.entry.Entry.TheVariants.{Line, Sent, Skipped, Made, Crossed, Redirected, Copied, Arrived, Taken, Dropped, Granted, Registered, Freed, Placed, LinkDown, LinkUp, Moved, Restarted, Settled, Unsettled}
 use Rattle.pl_journal_text.specs.declared.verb.Verb.{Verb}
 use Rattle.pl_journal_text.specs.Fields.{IsOfVerb, fields_text}
 use Rattle.pl_journal_text.specs.Ink.{address_ink, at_most_blank, byte_within, decimal_ink, free_of, host_ink, part_ink, short_within, switch_ink}
@@ -137,6 +137,8 @@ fields_once plan (Moved host edge port) (Moved host' edge' port') is fit fit' ve
     ap (λ z. Moved z edge port) (ap host_no (same_host plan host.0 host'.0 is fit.0 fit'.0 c0.0))
     ∙ ap (λ z. Moved host' z port) (ap switch_no (same_switch plan edge.0 edge'.0 is fit.1.0 fit'.1.0 c1.0))
     ∙ ap (λ z. Moved host' edge' z) (decimal_injective port port' (omega (arith, fit.1.1)) (omega (arith, fit'.1.1)) c1.1)
+fields_once plan (Restarted n) (Restarted n') is fit fit' verb same =
+    ap (λ z. Restarted z) (decimal_injective n n' (omega (arith, fit)) (omega (arith, fit')) same)
 fields_once plan (Settled n) (Settled n') is fit fit' verb same =
     ap (λ z. Settled z) (decimal_injective n n' (omega (arith, fit)) (omega (arith, fit')) same)
 fields_once plan (Unsettled n) (Unsettled n') is fit fit' verb same =

@@ -220,6 +220,7 @@ verb_found verbs.Placed = refl
 verb_found verbs.LinkDown = refl
 verb_found verbs.LinkUp = refl
 verb_found verbs.Moved = refl
+verb_found verbs.Restarted = refl
 verb_found verbs.Settled = refl
 verb_found verbs.Unsettled = refl
 

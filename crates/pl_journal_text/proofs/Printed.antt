@@ -9,7 +9,7 @@ use Rattle.pl_wiring.specs.Plan.{IsPlan, Plan}
 use Rattle.hex.specs.Hex.{encode_lower}
 use Rattle.pl_journal.specs.Text.{address_text, cause_text, host_text, line_of, part_text, skip_text, switch_text}
 use Rattle.pl_journal.specs.declared.entry.Entry.{Entry}
-use Rattle.pl_journal.specs.declared.entry.Entry.TheVariants.{Line, Sent, Skipped, Made, Crossed, Redirected, Copied, Arrived, Taken, Dropped, Granted, Registered, Freed, Placed, LinkDown, LinkUp, Moved, Settled, Unsettled}
+use Rattle.pl_journal.specs.declared.entry.Entry.TheVariants.{Line, Sent, Skipped, Made, Crossed, Redirected, Copied, Arrived, Taken, Dropped, Granted, Registered, Freed, Placed, LinkDown, LinkUp, Moved, Restarted, Settled, Unsettled}
 use Rattle.pl_journal_text.specs.declared.verb.Verb.{Verb}
 use Rattle.pl_journal_text.specs.declared.verb.Verb.TheVariants as verbs
 use Rattle.pl_journal_text.specs.Fields.{fields_text}
@@ -84,6 +84,7 @@ verb_ink verbs.Placed = refl
 verb_ink verbs.LinkDown = refl
 verb_ink verbs.LinkUp = refl
 verb_ink verbs.Moved = refl
+verb_ink verbs.Restarted = refl
 verb_ink verbs.Settled = refl
 verb_ink verbs.Unsettled = refl
 
@@ -169,6 +170,8 @@ fields_printed plan (Moved host edge port) is fits =
     (two_printed (switch_text plan edge.0) (decimal port)
     (switch_ink plan edge.0 is fits.1.0)
     (printed (decimal port) (decimal_ink port (omega (arith, fits.1.1)))))
+fields_printed plan (Restarted number) is fits =
+    printed (decimal number) (decimal_ink number (omega (arith, fits)))
 fields_printed plan (Settled rounds) is fits =
     printed (decimal rounds) (decimal_ink rounds (omega (arith, fits)))
 fields_printed plan (Unsettled pending) is fits =
@@ -212,5 +215,6 @@ line_is plan (Placed switch place) = four (codes "placed") (switch_text plan swi
 line_is plan (LinkDown a b) = two (codes "linkdown") (switch_text plan a.0) (switch_text plan b.0)
 line_is plan (LinkUp a b) = two (codes "linkup") (switch_text plan a.0) (switch_text plan b.0)
 line_is plan (Moved host edge port) = three (codes "moved") (host_text plan host.0) (switch_text plan edge.0) (decimal port)
+line_is plan (Restarted number) = one (codes "restarted") (decimal number)
 line_is plan (Settled rounds) = one (codes "settled") (decimal rounds)
 line_is plan (Unsettled pending) = one (codes "unsettled") (decimal pending)

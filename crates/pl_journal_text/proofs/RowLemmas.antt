@@ -10,7 +10,7 @@ use Rattle.pl_journal.specs.Text.{IsHost, IsSwitch, address_text, cause_text, ho
 use Rattle.pl_journal.specs.declared.cause.Cause.{Cause}
 use Rattle.pl_journal.specs.declared.cause.Skip.{Skip}
 use Rattle.pl_journal.specs.declared.entry.Entry.{Entry}
-use Rattle.pl_journal.specs.declared.entry.Entry.TheVariants.{Line, Sent, Skipped, Made, Crossed, Redirected, Copied, Arrived, Taken, Dropped, Granted, Registered, Freed, Placed, LinkDown, LinkUp, Moved, Settled, Unsettled}
+use Rattle.pl_journal.specs.declared.entry.Entry.TheVariants.{Line, Sent, Skipped, Made, Crossed, Redirected, Copied, Arrived, Taken, Dropped, Granted, Registered, Freed, Placed, LinkDown, LinkUp, Moved, Restarted, Settled, Unsettled}
 use Rattle.pl_journal_text.specs.declared.verb.Verb.TheVariants as verbs
 use Rattle.pl_journal_text.specs.Fields.{AreEndsOf, IsOfVerb, ends_text, fields_text}
 use Rattle.pl_journal_text.specs.Ink.{at_most_blank, free_of, switch_ink}
@@ -102,6 +102,12 @@ pub no_moved : (plan : Plan) (text : List ℕ) (read : Option (HostNo × (Switch
 no_moved plan text None reads none (Moved host edge port) is same = reads (host, (edge, port)) is.0 same
 no_moved plan text None reads none e is same = absurd (cc)
 no_moved plan text (Some x) reads none e is same = absurd (cc)
+
+pub no_restarted : (plan : Plan) (text : List ℕ) (read : Option (ℕ)) → Reads (λ (x : ℕ). decimal x) (λ x. IsCount x) text read → read ≡ None →
+    (e : Entry) → IsOfVerb plan verbs.Restarted e → text ≢ fields_text plan e
+no_restarted plan text None reads none (Restarted number) is same = reads number is.0 same
+no_restarted plan text None reads none e is same = absurd (cc)
+no_restarted plan text (Some x) reads none e is same = absurd (cc)
 
 pub no_settled : (plan : Plan) (text : List ℕ) (read : Option (ℕ)) → Reads (λ (x : ℕ). decimal x) (λ x. IsCount x) text read → read ≡ None →
     (e : Entry) → IsOfVerb plan verbs.Settled e → text ≢ fields_text plan e

@@ -5,7 +5,7 @@ use Rattle.pl_wiring.specs.declared.label.SwitchNo.{SwitchNo}
 use Rattle.pl_wiring.specs.Plan.{Plan}
 use Rattle.pl_journal.specs.Text.{address_text, cause_text, host_text, part_text, skip_text, switch_text}
 use Rattle.pl_journal.specs.declared.entry.Entry.{Entry}
-use Rattle.pl_journal.specs.declared.entry.Entry.TheVariants.{Line, Sent, Skipped, Made, Crossed, Redirected, Copied, Arrived, Taken, Dropped, Granted, Registered, Freed, Placed, LinkDown, LinkUp, Moved, Settled, Unsettled}
+use Rattle.pl_journal.specs.declared.entry.Entry.TheVariants.{Line, Sent, Skipped, Made, Crossed, Redirected, Copied, Arrived, Taken, Dropped, Granted, Registered, Freed, Placed, LinkDown, LinkUp, Moved, Restarted, Settled, Unsettled}
 use Rattle.pl_journal_text.specs.declared.verb.Verb.{Verb}
 use Rattle.pl_journal_text.specs.Verbs.{verb_of}
 use Rattle.pl_journal_text.specs.Writable.{AreEnds, IsWritable}
@@ -30,6 +30,7 @@ fields_text plan (Placed switch place) =
 fields_text plan (LinkDown a b) = switch_text plan a.0 ++ 32 ∷ switch_text plan b.0
 fields_text plan (LinkUp a b) = switch_text plan a.0 ++ 32 ∷ switch_text plan b.0
 fields_text plan (Moved host edge port) = host_text plan host.0 ++ 32 ∷ (switch_text plan edge.0 ++ 32 ∷ decimal port)
+fields_text plan (Restarted number) = decimal number
 fields_text plan (Settled rounds) = decimal rounds
 fields_text plan (Unsettled pending) = decimal pending
 

@@ -7,7 +7,7 @@ use Rattle.pl_journal.specs.declared.cause.Skip.TheVariants as skips
 use Rattle.pl_journal.specs.declared.entry.Entry.{Entry}
 use Rattle.pl_journal.specs.declared.entry.Entry.TheVariants as entries
 use Rattle.pl_journal_text.specs.declared.verb.Verb.{Verb}
-use Rattle.pl_journal_text.specs.declared.verb.Verb.TheVariants.{Line, Sent, Skipped, Made, Crossed, Redirected, Copied, Arrived, Taken, Dropped, Granted, Registered, Freed, Placed, LinkDown, LinkUp, Moved, Settled, Unsettled}
+use Rattle.pl_journal_text.specs.declared.verb.Verb.TheVariants.{Line, Sent, Skipped, Made, Crossed, Redirected, Copied, Arrived, Taken, Dropped, Granted, Registered, Freed, Placed, LinkDown, LinkUp, Moved, Restarted, Settled, Unsettled}
 
 abbrev pub verb_text : Verb → List ℕ
 verb_text Line = codes "line"
@@ -27,6 +27,7 @@ verb_text Placed = codes "placed"
 verb_text LinkDown = codes "linkdown"
 verb_text LinkUp = codes "linkup"
 verb_text Moved = codes "moved"
+verb_text Restarted = codes "restarted"
 verb_text Settled = codes "settled"
 verb_text Unsettled = codes "unsettled"
 
@@ -49,6 +50,7 @@ verb_of (entries.Placed switch place) = Placed
 verb_of (entries.LinkDown a b) = LinkDown
 verb_of (entries.LinkUp a b) = LinkUp
 verb_of (entries.Moved host edge port) = Moved
+verb_of (entries.Restarted number) = Restarted
 verb_of (entries.Settled rounds) = Settled
 verb_of (entries.Unsettled pending) = Unsettled
 
@@ -56,7 +58,7 @@ verb_of (entries.Unsettled pending) = Unsettled
 abbrev pub all_verbs : List Verb
 all_verbs =
     Line ∷ Sent ∷ Skipped ∷ Made ∷ Crossed ∷ Redirected ∷ Copied ∷ Arrived ∷ Taken ∷ Dropped ∷ Granted ∷ Registered ∷ Freed ∷ Placed ∷ LinkDown ∷ LinkUp
-    ∷ Moved ∷ Settled ∷ Unsettled ∷ []
+    ∷ Moved ∷ Restarted ∷ Settled ∷ Unsettled ∷ []
 
 abbrev pub all_causes : List Cause
 all_causes =

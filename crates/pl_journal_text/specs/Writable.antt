@@ -7,7 +7,7 @@ use Rattle.pl_wiring.specs.Plan.{Plan}
 use Rattle.pl_journal.specs.Ranges.{IsByte, IsCount, IsFrame, IsLong, IsPart}
 use Rattle.pl_journal.specs.Text.{IsHost, IsSwitch, journal_text}
 use Rattle.pl_journal.specs.declared.entry.Entry.{Entry}
-use Rattle.pl_journal.specs.declared.entry.Entry.TheVariants.{Line, Sent, Skipped, Made, Crossed, Redirected, Copied, Arrived, Taken, Dropped, Granted, Registered, Freed, Placed, LinkDown, LinkUp, Moved, Settled, Unsettled}
+use Rattle.pl_journal.specs.declared.entry.Entry.TheVariants.{Line, Sent, Skipped, Made, Crossed, Redirected, Copied, Arrived, Taken, Dropped, Granted, Registered, Freed, Placed, LinkDown, LinkUp, Moved, Restarted, Settled, Unsettled}
 
 abbrev pub AreEnds : Plan → ℕ → ℕ → Type 0
 AreEnds plan a b = IsSwitch plan a × IsSwitch plan b × (a < b)
@@ -30,6 +30,7 @@ IsWritable plan (Placed switch place) = IsSwitch plan switch.0 × (IsPart (2 ^ 8
 IsWritable plan (LinkDown a b) = AreEnds plan a.0 b.0
 IsWritable plan (LinkUp a b) = AreEnds plan a.0 b.0
 IsWritable plan (Moved host edge port) = IsHost plan host.0 × (IsSwitch plan edge.0 × IsByte port)
+IsWritable plan (Restarted number) = IsCount number
 IsWritable plan (Settled rounds) = IsCount rounds
 IsWritable plan (Unsettled pending) = IsLong pending
 

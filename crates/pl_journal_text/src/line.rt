@@ -84,6 +84,7 @@ fn read_fields(
         Verb::LinkDown => rows::link_down(alloc, wiring, fields),
         Verb::LinkUp => rows::link_up(alloc, wiring, fields),
         Verb::Moved => rows::moved(alloc, wiring, fields),
+        Verb::Restarted => rows::restarted(alloc, wiring, fields),
         Verb::Settled => rows::settled(alloc, wiring, fields),
         Verb::Unsettled => rows::unsettled(alloc, wiring, fields),
     }

@@ -173,6 +173,21 @@ pub(crate) fn moved(alloc: Global, wiring: &Wiring, fields: &str) -> Result<Opti
     }
 }
 
+/// The fields behind `restarted`.
+pub(crate) fn restarted(
+    alloc: Global,
+    wiring: &Wiring,
+    fields: &str,
+) -> Result<Option<Entry>, Memory>
+    ensures { IfOk result (Reads (fields_text wiring.now) (IsOfVerb wiring.now Verb.Restarted) fields.now) }
+{
+    let read = u32::from_text(alloc, wiring, fields)?;
+    match read {
+        None => Ok(None),
+        Some(number) => Ok(Some(Entry::Restarted(number))),
+    }
+}
+
 /// The fields behind `settled`.
 pub(crate) fn settled(alloc: Global, wiring: &Wiring, fields: &str) -> Result<Option<Entry>, Memory>
     ensures { IfOk result (Reads (fields_text wiring.now) (IsOfVerb wiring.now Verb.Settled) fields.now) }

@@ -26,12 +26,13 @@ pub(crate) enum Verb {
     LinkDown,
     LinkUp,
     Moved,
+    Restarted,
     Settled,
     Unsettled,
 }
 
 impl Verb {
-    const ALL: [Verb; 19] = [
+    const ALL: [Verb; 20] = [
         Verb::Line,
         Verb::Sent,
         Verb::Skipped,
@@ -49,6 +50,7 @@ impl Verb {
         Verb::LinkDown,
         Verb::LinkUp,
         Verb::Moved,
+        Verb::Restarted,
         Verb::Settled,
         Verb::Unsettled,
     ];
@@ -74,6 +76,7 @@ impl Verb {
             Verb::LinkDown => "linkdown",
             Verb::LinkUp => "linkup",
             Verb::Moved => "moved",
+            Verb::Restarted => "restarted",
             Verb::Settled => "settled",
             Verb::Unsettled => "unsettled",
         }

@@ -1,5 +1,5 @@
 -- Grants, and the edge switches that pod and position stand for.
-use Rattle.std.proofs.Common.{◌≡◌, ◌↔◌, ℕ, ◌+◌, ◌==◌, ◌&&◌, ◌||◌, Bool, true, false, cond, List, [], ◌∷◌, Option, Some, None, is_some, unwrap_or, refl, sym, subst, ap, ap₂, ◌∙◌, inl, inr}
+use Rattle.std.proofs.Common.{◌≡◌, ◌↔◌, ℕ, ◌+◌, ◌==◌, ◌&&◌, ◌||◌, Bool, true, false, cond, List, [], ◌∷◌, Option, Some, None, is_some, unwrap_or, refl, sym, subst, ap, ap₂, ◌∙◌, inl, inr, arith, max, ◌<◌}
 use Rattle.std.specs.Prelude.{IsTrue}
 use Rattle.std.specs.Option.{option_map}
 use Rattle.std.proofs.lemmas.Bool.{cases_eq, eq-eqb, ne_eqb}
@@ -8,7 +8,7 @@ use Rattle.pl_pmac.specs.declared.pmac.Pmac.{Pmac}
 use Rattle.pl_pmac.specs.Pmac.{pmac_number}
 use Rattle.pl_journal.specs.declared.entry.Entry.{Entry}
 use Rattle.pl_journal.specs.declared.entry.Entry.TheVariants.{Granted, Registered}
-use Rattle.pl_journal.specs.Places.{EdgePort, edge_port, holder, is_of_edge, number, registered}
+use Rattle.pl_journal.specs.Places.{EdgePort, edge_port, holder, is_of_edge, highest, number}
 use Rattle.pl_past_tables.specs.declared.addresses.Grant.{Grant}
 use Rattle.std.specs.Map.{lookup}
 use Rattle.pl_wiring.specs.declared.host.HostNo.{HostNo}
@@ -87,7 +87,7 @@ pub granted_now : (past : List Entry) (a now : Addresses) (x : Pmac) (h : HostNo
     ((k : ℕ) → lookup (λ y. k == y) now.grants.said.entries ≡ cond (number == k) (Some (record { host = h; point = at }))
     (lookup (λ y. k == y) a.grants.said.entries)) →
     ((k : ℕ) → lookup (λ y. k == y) now.numbers.said.entries ≡ cond (number == k) (Some no_number) (lookup (λ y. k == y) a.numbers.said.entries)) →
-    now.many ≡ a.many →
+    now.highest ≡ a.highest →
     ((k : Stay) → lookup (same_stay k) now.stays.said.entries ≡ cond (same_stay (record { host = h; point = at }) k) (Some x)
     (lookup (same_stay k) a.stays.said.entries)) →
     ((k : Point) → is_some (lookup (same_point k) now.spent.said.entries)
@@ -96,12 +96,12 @@ pub granted_now : (past : List Entry) (a now : Addresses) (x : Pmac) (h : HostNo
     (lookup (same_pod_position k) a.edges.said.entries)) →
     ((k : SwitchNo) → lookup (same_switch k) now.by_edge.said.entries ≡ cond (same_switch at.edge k) (Some x) (lookup (same_switch k) a.by_edge.said.entries)) →
     KeepsAddresses (Granted x h at.edge at.port ∷ past) now
-granted_now past a now x h at number keeps is grants numbers many stays spent edges by_edge = record {
+granted_now past a now x h at number keeps is grants numbers most stays spent edges by_edge = record {
   grants = λ k. grants k ∙ ap₂ (λ (m : ℕ) (o : Option Grant). cond (m == k) (Some (record { host = h; point = at })) o) is (keeps.grants k);
   numbers = λ k.
       ap (λ (o : Option (Option ℕ)). unwrap_or o None) (numbers k) ∙ value_now (number == k) no_number None (lookup (λ y. k == y) a.numbers.said.entries)
       ∙ ap₂ (λ (m : ℕ) (o : Option ℕ). cond (m == k) None o) is (keeps.numbers k);
-  many = many ∙ keeps.many;
+  highest = most ∙ keeps.highest;
   stays = λ k. stays k ∙ ap (λ (o : Option Pmac). cond (same_stay (record { host = h; point = at }) k) (Some x) o) (keeps.stays k);
   spent = λ k. spent k ∙ ap (λ b. ((x.vmid == 65535) && same_point at k) || b) (keeps.spent k);
   edges = λ y. edge_now x y at.edge (lookup (same_pod_position (pod_position y)) now.edges.said.entries)
@@ -110,17 +110,21 @@ granted_now past a now x h at number keeps is grants numbers many stays spent ed
   by_edge = λ k. by_edge k ∙ ap (λ (o : Option Pmac). cond (same_switch at.edge k) (Some x) o) (keeps.by_edge k);
 }
 
+-- a larger number is the highest
+raised : (m n : ℕ) → m < n → n ≡ max m n
+raised m n above = omega (arith, above)
+
 pub registered_now : (past : List Entry) (a now : Addresses) (x : Pmac) (n number : ℕ) → KeepsAddresses past a → number ≡ pmac_number x →
     ((k : ℕ) → lookup (λ y. k == y) now.numbers.said.entries ≡ cond (number == k) (Some (Some n)) (lookup (λ y. k == y) a.numbers.said.entries)) →
-    now.many ≡ n → n ≡ registered past + 1 →
+    now.highest ≡ n → highest past < n →
     now.grants.said.entries ≡ a.grants.said.entries → now.stays.said.entries ≡ a.stays.said.entries → now.spent.said.entries ≡ a.spent.said.entries →
     now.edges.said.entries ≡ a.edges.said.entries → now.by_edge.said.entries ≡ a.by_edge.said.entries → KeepsAddresses (Registered x n ∷ past) now
-registered_now past a now x n number keeps is numbers many next grants stays spent edges by_edge = record {
+registered_now past a now x n number keeps is numbers most above grants stays spent edges by_edge = record {
   grants = λ k. ap (λ (es : List (ℕ × Grant)). lookup (λ y. k == y) es) grants ∙ keeps.grants k;
   numbers = λ k.
       ap (λ (o : Option (Option ℕ)). unwrap_or o None) (numbers k) ∙ value_now (number == k) (Some n) None (lookup (λ y. k == y) a.numbers.said.entries)
       ∙ ap₂ (λ (m : ℕ) (o : Option ℕ). cond (m == k) (Some n) o) is (keeps.numbers k);
-  many = many ∙ next;
+  highest = most ∙ raised (highest past) n above;
   stays = λ k. ap (λ (es : List (Stay × Pmac)). lookup (same_stay k) es) stays ∙ keeps.stays k;
   spent = λ k. ap (λ (es : List (Point × Bool)). is_some (lookup (same_point k) es)) spent ∙ keeps.spent k;
   edges = λ y. ap (λ (es : List (PodPosition × SwitchNo)). option_map (λ (s : SwitchNo). s.0) (lookup (same_pod_position (pod_position y)) es)) edges

@@ -1,9 +1,9 @@
-ghost use Rattle.std.specs.Prelude.{◌≡◌, ◌↔◌, ◌+◌, ◌==◌, ◌&&◌, ◌||◌, ◌∷◌, [], List, ℕ, IsTrue, OnOk, is_some, option_map};
+ghost use Rattle.std.specs.Prelude.{◌≡◌, ◌↔◌, ◌<◌, ◌==◌, ◌&&◌, ◌||◌, ◌∷◌, [], List, ℕ, IsTrue, OnOk, is_some, option_map};
 ghost use Rattle.std.specs.Map.{lookup};
 ghost use Rattle.pl_wiring.specs.Plan.{Plan};
 ghost use Rattle.pl_journal.specs.declared.entry.Entry.{Entry};
 ghost use Rattle.pl_journal.specs.declared.entry.Entry.TheVariants.{Granted, Registered};
-ghost use Rattle.pl_journal.specs.Places.{edge_port, granted_at, holder, is_of_edge, is_spent, number, registered};
+ghost use Rattle.pl_journal.specs.Places.{edge_port, granted_at, holder, is_of_edge, highest, is_spent, number};
 ghost use Rattle.pl_journal.specs.Flights.{address_at};
 ghost use Rattle.pl_journal.specs.Lossy.{IsNewer, RunTo};
 ghost use Rattle.pl_past_tables.specs.declared.keys.Point.{Point};
@@ -30,7 +30,7 @@ pub struct Grant {
 pub struct Addresses {
     pub(crate) grants: Last<u64, Grant>,
     pub(crate) numbers: Last<u64, Option<u64>>,
-    pub(crate) many: u64,
+    pub(crate) highest: u64,
     pub(crate) stays: Last<Stay, Pmac>,
     pub(crate) spent: Last<Point, bool>,
     pub(crate) edges: Last<PodPosition, SwitchNo>,
@@ -44,7 +44,7 @@ impl Addresses {
         Addresses {
             grants: Last::new(alloc),
             numbers: Last::new(alloc),
-            many: 0,
+            highest: 0,
             stays: Last::new(alloc),
             spent: Last::new(alloc),
             edges: Last::new(alloc),
@@ -79,18 +79,18 @@ impl Addresses {
         }
     }
 
-    /// The number that an address was registered with since it was granted last.
+    /// The number that an address was registered with last since it was granted last.
     pub fn number(&self, address: u64) -> Option<u64>
         ensures { (past : List Entry) → KeepsAddresses past self.now → result ≡ number past address }
     {
         self.numbers.get(address).unwrap_or(None)
     }
 
-    /// How many registrations there were.
-    pub fn registered(&self) -> u64
-        ensures { (past : List Entry) → KeepsAddresses past self.now → result ≡ registered past }
+    /// The largest number that was given.
+    pub fn highest(&self) -> u64
+        ensures { (past : List Entry) → KeepsAddresses past self.now → result ≡ highest past }
     {
-        self.many
+        self.highest
     }
 
     /// The address that a host was granted last at a port.
@@ -163,13 +163,13 @@ impl Addresses {
         Ok(())
     }
 
-    /// An address is registered with the next number.
+    /// An address is registered with a number above all before.
     pub fn register(&mut self, x: Pmac, n: u64) -> Result<(), Memory>
-        ensures { OnOk result ((past : List Entry) → KeepsAddresses past self.old → n ≡ registered past + 1 →
+        ensures { OnOk result ((past : List Entry) → KeepsAddresses past self.old → highest past < n →
             KeepsAddresses (Registered x n ∷ past) self.new) }
     {
         self.numbers.put(number_of(x), Some(n))?;
-        self.many = n;
+        self.highest = n;
         Ok(())
     }
 }

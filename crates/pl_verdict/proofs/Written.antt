@@ -4,7 +4,7 @@ use Rattle.std.specs.List.{AllByRecursion}
 use Rattle.std.proofs.lemmas.List.Elements.{All-from_recursion, recursion_from_All}
 use Rattle.pl_wiring.specs.Plan.{Plan}
 use Rattle.pl_journal.specs.declared.entry.Entry.{Entry}
-use Rattle.pl_journal.specs.declared.entry.Entry.TheVariants.{Line, Sent, Skipped, Made, Crossed, Redirected, Copied, Arrived, Taken, Dropped, Granted, Registered, Freed, Placed, LinkDown, LinkUp, Moved, Settled, Unsettled}
+use Rattle.pl_journal.specs.declared.entry.Entry.TheVariants.{Line, Sent, Skipped, Made, Crossed, Redirected, Copied, Arrived, Taken, Dropped, Granted, Registered, Freed, Placed, LinkDown, LinkUp, Moved, Restarted, Settled, Unsettled}
 use Rattle.pl_journal.specs.Lossy.{GoodTrail, Run}
 use Rattle.pl_journal.specs.Ranges.{Fits}
 use Rattle.pl_journal.specs.Savable.{IsSavable}
@@ -32,6 +32,7 @@ writable plan past (Placed s place) follows is fits = (is.named, fits)
 writable plan past (LinkDown a b) follows is fits = (is.named.0, is.named.1, follows.0.ordered)
 writable plan past (LinkUp a b) follows is fits = (is.named.0, is.named.1, follows.0.ordered)
 writable plan past (Moved h s port) follows is fits = (is.named.0, (is.named.1, fits))
+writable plan past (Restarted n) follows is fits = fits
 writable plan past (Settled n) follows is fits = fits
 writable plan past (Unsettled n) follows is fits = fits
 

@@ -1,7 +1,7 @@
 -- What each step and each mark keeps, each run keeps.
 use Rattle.std.proofs.Common.{◌≡◌, ℕ, ◌+◌, List, [], ◌∷◌, refl, sym, subst}
 use Rattle.pl_journal.specs.declared.entry.Entry.{Entry}
-use Rattle.pl_journal.specs.declared.entry.Entry.TheVariants.{Arrived, Copied, Crossed, Dropped, Freed, Granted, Line, LinkDown, LinkUp, Made, Moved, Placed, Redirected, Registered, Sent, Settled, Skipped, Taken, Unsettled}
+use Rattle.pl_journal.specs.declared.entry.Entry.TheVariants.{Arrived, Copied, Crossed, Dropped, Freed, Granted, Line, LinkDown, LinkUp, Made, Moved, Placed, Redirected, Registered, Restarted, Sent, Settled, Skipped, Taken, Unsettled}
 use Rattle.pl_journal.specs.Flights.{begun, ends}
 use Rattle.pl_node.specs.Accounting.{AccountsForFrames}
 use Rattle.pl_node.specs.HostDuties.{HostsSendData}
@@ -42,6 +42,7 @@ marked w (Placed switch place) is counted = absurd is
 marked w (LinkDown x y) is counted = absurd is
 marked w (LinkUp x y) is counted = absurd is
 marked w (Moved host edge port) is counted = absurd is
+marked w (Restarted number) is counted = absurd is
 
 pub marked_counted : (w new : WorldView) (e : Entry) → IsMark e → new ≡ noted w e → IsCounted w → IsCounted new
 marked_counted w new e is same before = subst IsCounted (sym same) (marked w e is before)

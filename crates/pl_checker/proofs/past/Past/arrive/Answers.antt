@@ -31,4 +31,5 @@ returns c = λ text past keeps follows.
       hosts = keeps.hosts;
       links = keeps.links;
       groups = c.in_ok-arrive.ensures w past c.args.id c.args.host c.args.frame.now keeps.groups found.1.root (c.in-Some-point_of.ensures past keeps.hosts);
+      restarts = keeps.restarts;
     }

@@ -24,4 +24,5 @@ returns c = λ text past keeps follows.
       hosts = keeps.hosts;
       links = keeps.links;
       groups = keeps.groups;
+      restarts = keeps.restarts;
     }

@@ -29,4 +29,5 @@ returns c = λ text past keeps next follows.
       hosts = keeps.hosts;
       links = keeps.links;
       groups = keeps.groups;
+      restarts = keeps.restarts;
     }

@@ -13,4 +13,5 @@ returns c = λ text past keeps follows. record {
   hosts = keeps.hosts;
   links = c.in_ok-fail.ensures past keeps.links follows.0.ordered;
   groups = keeps.groups;
+  restarts = keeps.restarts;
 }

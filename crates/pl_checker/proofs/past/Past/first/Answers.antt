@@ -12,4 +12,5 @@ returns c = λ text. record {
   hosts = c.in_ok-hosts.ensures;
   links = c.new-4.ensures;
   groups = c.new-5.ensures c.args.wiring.now;
+  restarts = refl;
 }

@@ -16,4 +16,5 @@ returns c = λ text past keeps next follows. record {
   hosts = keeps.hosts;
   links = keeps.links;
   groups = keeps.groups;
+  restarts = keeps.restarts;
 }

@@ -14,4 +14,5 @@ returns c = λ text past keeps next follows. record {
   hosts = c.in_ok-go.ensures past keeps.run keeps.hosts (is_there c.args.wiring.now.hosts c.args.host.0 follows.0.0) follows.0.1 next;
   links = keeps.links;
   groups = keeps.groups;
+  restarts = keeps.restarts;
 }

@@ -58,6 +58,11 @@ returns-in_ok-arrive-in-Arrived c = λ text past keeps next digits follows.
     subst (λ (e : Entry). Keeps c.args.wiring.now text (e ∷ past) c.arrive.new.self) (sym c.in-Arrived.is)
     (c.in_ok-arrive-in-Arrived.ensures text past keeps (subst (λ (e : Entry). MayFollow c.args.wiring.now past e) c.in-Arrived.is follows))
 
+pub returns-in-Restarted : goal.returns-in-Restarted
+returns-in-Restarted c = λ text past keeps next digits follows.
+    subst (λ (e : Entry). Keeps c.args.wiring.now text (e ∷ past) c.restart.new.self) (sym c.in-Restarted.is)
+    (c.restart.ensures text past keeps (subst (λ (e : Entry). MayFollow c.args.wiring.now past e) c.in-Restarted.is follows))
+
 pub returns-in_ok-register-in-Registered : goal.returns-in_ok-register-in-Registered
 returns-in_ok-register-in-Registered c = λ text past keeps next digits follows.
     subst (λ (e : Entry). Keeps c.args.wiring.now text (e ∷ past) c.register.new.self) (sym c.in-Registered.is)

@@ -20,4 +20,5 @@ returns c = λ text past keeps most bytes digits follows.
       hosts = keeps.hosts;
       links = keeps.links;
       groups = keeps.groups;
+      restarts = keeps.restarts;
     }

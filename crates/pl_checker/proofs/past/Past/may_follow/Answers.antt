@@ -54,6 +54,11 @@ pub returns-in-Dropped : goal.returns-in-Dropped
 returns-in-Dropped c = λ past keeps.
     subst (λ (e : Entry). IsTrue c.may_drop.result ↔ MayFollow c.args.wiring.now past e) (sym c.in-Dropped.is) (c.may_drop.ensures c.args.text.now past keeps)
 
+pub returns-in-Restarted : goal.returns-in-Restarted
+returns-in-Restarted c = λ past keeps.
+    subst (λ (e : Entry). IsTrue c.may_restart.result ↔ MayFollow c.args.wiring.now past e) (sym c.in-Restarted.is)
+    (c.may_restart.ensures c.args.text.now past keeps)
+
 pub returns-in-Registered : goal.returns-in-Registered
 returns-in-Registered c = λ past keeps.
     subst (λ (e : Entry). IsTrue c.may_register.result ↔ MayFollow c.args.wiring.now past e) (sym c.in-Registered.is)

@@ -7,10 +7,11 @@ returns c = λ text past keeps follows. record {
   run = (keeps.run, follows.0);
   just = λ id. refl;
   frames = no_row c.args.wiring.now text past _ c.args.self.now.frames.rows.items keeps.frames refl (λ id. refl);
-  addresses = c.in_ok-register.ensures past keeps.addresses follows.0.2;
+  addresses = c.in_ok-register.ensures past keeps.addresses follows.0.1;
   fits = keeps.fits;
   holders = keeps.holders;
   hosts = keeps.hosts;
   links = keeps.links;
   groups = keeps.groups;
+  restarts = keeps.restarts;
 }

@@ -13,4 +13,5 @@ returns c = λ text past keeps next follows. record {
   hosts = keeps.hosts;
   links = c.in_ok-repair.ensures past keeps.links follows.0.ordered follows.0.state next;
   groups = keeps.groups;
+  restarts = keeps.restarts;
 }

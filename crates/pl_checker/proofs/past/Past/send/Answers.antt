@@ -21,4 +21,5 @@ returns c = λ text past keeps next most bytes digits follows.
       hosts = keeps.hosts;
       links = keeps.links;
       groups = c.in_ok-send.ensures w past c.args.id keeps.groups;
+      restarts = keeps.restarts;
     }

@@ -8,7 +8,7 @@ returns c = λ past keeps.
     (record {
       grants = c.put.new.self;
       numbers = c.put-2.new.self;
-      many = c.args.self.now.many;
+      highest = c.args.self.now.highest;
       stays = c.put-3.new.self;
       spent = c.spend.new.spent;
       edges = c.put-4.new.self;

@@ -12,8 +12,9 @@ use Rattle.pl_node.specs.declared.acts.ManagerAct.TheVariants.{Say}
 use Rattle.pl_node.specs.declared.messages.ToManager.{ToManager}
 use Rattle.pl_node.specs.declared.messages.ToManager.TheVariants as tell
 use Rattle.pl_node.specs.declared.messages.ToSwitch.TheVariants as say
+use Rattle.pl_node.specs.declared.pod_given.PodGiven.{PodGiven}
 use Rattle.pl_node.specs.Gains.{Gains}
-use Rattle.pl_node.specs.ManagerViews.{Learnt, ManagerView, lookup, members_cmp, pod_given}
+use Rattle.pl_node.specs.ManagerViews.{Learnt, ManagerView, Told, lookup, members_cmp, pod_given}
 use Rattle.pl_manager_rule.specs.ManagerRule.{answer_to, avoid_acts, hears_aged, learning, manager_hears, manager_rule, tree_acts, with_asker, with_learnt, with_link, with_place}
 use Rattle.pl_manager_rule.proofs.Exports.{no_avoid_acts, no_tree_acts}
 use Rattle.pl_manager.specs.Routing.{RoutingView, trees_told_anew}
@@ -53,17 +54,17 @@ module _ (view : ManagerView) (s : SwitchId) (before after : List ManagerAct) wh
     holds = (ap with_tree is, ap (trees_told_anew tree) is ∙ (λ i. sym (no_avoid_acts view.told) i ++ trees_told_anew tree (record { told = view.told; members = insert_entry members_cmp view.members (s, group) any })));
   }
 
-  pub pod_heard : (askers : List SwitchId) → askers ≡ with_asker view.askers s →
-      after ≡ before ++ Say s (say.Pod (unwrap_or (pod_given askers s) 0)) ∷ [] →
-      Gains before after (manager_rule view s tell.PodWanted (record view { askers = askers }))
+  pub pod_heard : (pods : List PodGiven) → pods ≡ with_asker view.told view.pods s →
+      after ≡ before ++ Say s (say.Pod (unwrap_or (pod_given pods s) 0)) ∷ [] →
+      Gains before after (manager_rule view s tell.PodWanted (record view { pods = pods }))
   unfolding manager_hears
-  pod_heard askers is acts = record {
-    items = Say s (say.Pod (unwrap_or (pod_given askers s) 0)) ∷ [];
+  pod_heard pods is acts = record {
+    items = Say s (say.Pod (unwrap_or (pod_given pods s) 0)) ∷ [];
     gained = acts;
     holds = (
-      ap (λ those. record view { askers = those }) is,
+      ap (λ those. record view { pods = those }) is,
       ap (λ those. Say s (say.Pod (unwrap_or (pod_given those s) 0)) ∷ []) is
-          ∙ sym (quiet view (Say s (say.Pod (unwrap_or (pod_given (with_asker view.askers s) s) 0)) ∷ [])),
+          ∙ sym (quiet view (Say s (say.Pod (unwrap_or (pod_given (with_asker view.told view.pods s) s) 0)) ∷ [])),
     );
   }
 
@@ -130,11 +131,12 @@ module _ {T E : Type 0} (result : Result T E) (view : ManagerView) (s : SwitchId
   members_told group any r is =
       both_ok (λ was acts. subst (λ w. Gains before after (manager_rule view s w (with_tree view s before after r))) (sym is) (members_heard view s before after group any r was acts))
 
-  pub pod_told : (askers : List SwitchId) → says ≡ tell.PodWanted → OnOk result (askers ≡ with_asker view.askers s) →
-      OnOk result (after ≡ before ++ Say s (say.Pod (unwrap_or (pod_given askers s) 0)) ∷ []) →
-      OnOk result (Gains before after (manager_rule view s says (record view { askers = askers })))
-  pod_told askers is =
-      both_ok (λ was acts. subst (λ w. Gains before after (manager_rule view s w (record view { askers = askers }))) (sym is) (pod_heard view s before after askers was acts))
+  pub pod_told : (told : Told) (pods : List PodGiven) → says ≡ tell.PodWanted → told ≡ view.told → OnOk result (pods ≡ with_asker told view.pods s) →
+      OnOk result (after ≡ before ++ Say s (say.Pod (unwrap_or (pod_given pods s) 0)) ∷ []) →
+      OnOk result (Gains before after (manager_rule view s says (record view { pods = pods })))
+  pod_told told pods is same =
+      both_ok (λ was acts. subst (λ w. Gains before after (manager_rule view s w (record view { pods = pods }))) (sym is)
+      (pod_heard view s before after pods (was ∙ ap (λ (t : Told). with_asker t view.pods s) same) acts))
 
   pub address_told : (pmac : Pmac) (amac : Mac) (ip : Option Ip4) (learnt : Learnt) → says ≡ tell.Learned pmac amac ip →
       OnOk result (learnt ≡ with_learnt view.learnt (record { switch = s; pmac = pmac; amac = amac; ip = ip })) →

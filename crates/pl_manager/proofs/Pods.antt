@@ -1,51 +1,36 @@
--- No more pods were given than switches were heard, so the number of each fits 16 bits.
-use Rattle.std.proofs.Common.{◌≡◌, ℕ, ◌*◌, ◌<◌, ◌≤◌, Bool, true, false, cond, List, [], ◌∷◌, ◌++◌, map, length, Ordering, Less, Equal, Greater, inl, inr, arith}
-use Rattle.std.proofs.lemmas.List.{length-map}
-use Rattle.std.specs.List.{list_any}
-use Rattle.std.specs.Cmp.{IsEquivalence}
+-- The number of a pod that is free, found from the smallest one on. It fits 16 bits, since a tree has far fewer switches.
+use Rattle.std.proofs.Common.{◌≡◌, ◌≤◌, ◌<◌, ℕ, ◌+◌, ◌*◌, true, false, List, [], ◌∷◌, ◌++◌, length, map, Ordering, Less, Equal, Greater, arith}
 use Rattle.std.specs.BTreeSet.{insert_key}
-use Rattle.std.specs.Ordering.{match_ordering}
-use Rattle.std.proofs.lemmas.Cmp.{nat_eq_equiv}
-use Rattle.std.proofs.lemmas.Map.Made.{length-le_from_is_member}
+use Rattle.std.specs.Ordering.{eq_by_cmp, match_ordering}
+use Rattle.std.proofs.lemmas.Bool.{both_ways}
+use Rattle.std.proofs.lemmas.Cmp.{eq_by_cmp_equiv}
+use Rattle.std.proofs.lemmas.Map.Keys.{IsDistinct-from_sorted}
 use Rattle.std.proofs.Math.Nat.{div-le_self, mul-le-mul_left, mul-le-mul_right}
 use Rattle.pl_frame.specs.declared.address.SwitchId.{SwitchId}
-use Rattle.pl_layouts.specs.Equality.{same_switch}
+use Rattle.pl_node.specs.declared.pod_given.PodGiven.{PodGiven}
 use Rattle.pl_node.specs.ManagerFacts.{CanHear, heard, switch_count}
-use Rattle.pl_node.specs.ManagerViews.{ManagerView, PodGiven, id_cmp, pods_given, speakers, tellers}
+use Rattle.pl_node.specs.ManagerViews.{ManagerView, Told, first_free, id_cmp, in_order, is_taken, speakers, switches, tellers}
 use Rattle.pl_node.specs.SwitchFacts.{IsTreeSize}
-use Rattle.pl_node.proofs.Exports.{among_in_order, among_left, among_right, any_among, IsAmong, member_passes}
-use Rattle.pl_manager_rule.proofs.Exports.{askers_once, id_exact}
+use Rattle.pl_node.proofs.Exports.{among_left, among_ordered, among_right, few_in_order, id_exact, id_total, IsAmong, rising_in_order}
+use Rattle.pl_manager_rule.proofs.Exports.{first_is_free, least_free, one_free}
+use Rattle.pl_registry.specs.Askers.{pod_holders}
 
-abbrev given : List SwitchId → List SwitchId
-given askers = map (λ g. g.switch) (pods_given askers)
+pub is_first : (told : Told) (pods : List PodGiven) (n : ℕ) → is_taken told pods n ≡ false → ((k : ℕ) → k < n → is_taken told pods k ≡ true) →
+    n ≡ first_free told pods
+is_first told pods n free smallest =
+    one_free told pods n (first_free told pods) (record { free = free; smallest = smallest }) (first_is_free told pods)
 
--- a switch that was given a pod asked
-given_asked : (askers : List SwitchId) (s : SwitchId) → IsAmong s (given askers) → IsAmong s askers
-given_asked [] s h = h
-given_asked (a ∷ askers) s h = by (λ k. given_asked askers s k) (list_any (λ g. same_switch g.switch a) (pods_given askers)) h
-  where
-    by : (IsAmong s (given askers) → IsAmong s askers) → (b : Bool) →
-        let new : PodGiven = record { switch = a; pod = length (pods_given askers) } in
-        IsAmong s (map (λ (g : PodGiven). g.switch) (cond b (pods_given askers) (new ∷ pods_given askers))) → IsAmong s (a ∷ askers)
-    by rest true k = inr (rest k)
-    by rest false (inl is) = inl is
-    by rest false (inr k) = inr (rest k)
+-- not all of so many numbers are taken
+pub one_is_free : (told : Told) (pods : List PodGiven) (n : ℕ) → length told.places + length pods < n → ((k : ℕ) → k < n → is_taken told pods k ≡ true) → ⊥
+one_is_free told pods n more taken =
+    let least = least_free told pods in
+    both_ways (is_taken told pods (first_free told pods)) (first_is_free told pods).free (taken (first_free told pods) (omega (arith, more, least)))
 
-switch_laws : IsEquivalence same_switch
-switch_laws = record {
-  refl = λ a. nat_eq_equiv.refl a.0;
-  symm = λ a b. nat_eq_equiv.symm a.0 b.0;
-  congr = λ a b c. nat_eq_equiv.congr a.0 b.0 c.0;
-}
-
--- and was heard
-given_heard : (view : ManagerView) (s : SwitchId) → list_any (same_switch s) (given view.askers) ≡ true → list_any (same_switch s) (heard view) ≡ true
-given_heard view s e =
-    let at = member_passes (same_switch s) (given view.askers) e in
-    let members = map (λ m. m.0.0) view.members in let learners = map (λ a. a.switch) view.learnt.addresses in
-    let spoke = among_right at.0 (tellers view.told) (members ++ (view.askers ++ learners))
-    (among_right at.0 members (view.askers ++ learners) (among_left at.0 view.askers learners (given_asked view.askers at.0 at.1))) in
-    any_among (same_switch s) at.0 (heard view) (among_in_order id_cmp id_exact at.0 (speakers view) spoke) at.2
+-- ---- switches that were heard
+within : (xs ys : List SwitchId) → ((s : SwitchId) → IsAmong s xs → IsAmong s ys) → length (in_order id_cmp xs) ≤ length (in_order id_cmp ys)
+within xs ys each =
+    few_in_order id_cmp id_total id_exact (eq_by_cmp id_cmp) (eq_by_cmp_equiv id_total) (in_order id_cmp xs) ys
+    (IsDistinct-from_sorted id_cmp (in_order id_cmp xs) (rising_in_order id_cmp id_total xs)) (λ s h. each s (among_ordered id_cmp s xs h))
 
 longer : (s : SwitchId) (xs : List SwitchId) → length xs ≤ length (insert_key id_cmp xs s)
 longer s [] = omega arith
@@ -65,10 +50,12 @@ few_switches k small =
     let all = div-le_self (5 * k * k) 4 in
     omega (arith, one, two, three, all)
 
-pub few_pods : (view : ManagerView) (s : SwitchId) → IsTreeSize view.k → CanHear view s → length (pods_given view.askers) < 65536
-few_pods view s size can =
-    let within = length-le_from_is_member switch_laws (given view.askers) (heard view) (askers_once view.askers) (λ q e. given_heard view q e) in
-    let many = length-map (pods_given view.askers) (λ g. g.switch) in
+pub few_heard : (view : ManagerView) (s : SwitchId) → IsTreeSize view.k → CanHear view s → length (switches view.told) + length (pod_holders view.pods) < 65535
+few_heard view s size can =
+    let members = map (λ m. m.0.0) view.members in let holders = map (λ (g : PodGiven). g.switch) view.pods in let learners = map (λ a. a.switch) view.learnt.addresses in
+    let told = within (tellers view.told) (speakers view) (λ t h. among_left t (tellers view.told) (members ++ (holders ++ learners)) h) in
+    let given = within holders (speakers view)
+    (λ t h. among_right t (tellers view.told) (members ++ (holders ++ learners)) (among_right t members (holders ++ learners) (among_left t holders learners h))) in
     let more = longer s (heard view) in
     let few = few_switches view.k size.high in
-    omega (arith, within, many, more, few, can.switches)
+    omega (arith, told, given, more, few, can.switches)

@@ -10,7 +10,7 @@ manager_view manager = record {
   k = manager.k;
   told = manager.routing.told;
   members = manager.routing.members;
-  askers = manager.askers;
+  pods = manager.askers;
   learnt = manager.registry;
 }
 

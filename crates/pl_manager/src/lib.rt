@@ -7,6 +7,7 @@
 
 pub use manager::Manager;
 
+mod giving;
 mod manager;
 mod manager_logic;
 mod renewing;

@@ -44,7 +44,9 @@ impl ManagerLogic for Manager {
             ToManager::Link { neighbour, usable } => {
                 self.routing.report(switch, neighbour, usable, out)
             }
-            ToManager::PodWanted => give_pod(&mut self.askers, switch, out),
+            ToManager::PodWanted => {
+                give_pod(&mut self.askers, self.routing.reports(), switch, out)
+            }
             ToManager::Learned { pmac, amac, ip } => {
                 learn(&mut self.registry, switch, pmac, amac, ip, out)
             }

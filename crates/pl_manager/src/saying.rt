@@ -1,27 +1,31 @@
-ghost use Rattle.std.specs.Prelude.{◌≡◌, ◌++◌, ◌∷◌, ◌<◌, [], OnOk, Some, length, unwrap_or};
+ghost use Rattle.std.specs.Prelude.{◌≡◌, ◌<◌, ◌+◌, ◌++◌, ◌∷◌, [], OnOk, Some, length, unwrap_or};
 ghost use Rattle.pl_node.specs.declared.acts.ManagerAct.TheVariants.{Say};
 ghost use Rattle.pl_node.specs.declared.messages.ToSwitch.TheVariants.{Pod};
-ghost use Rattle.pl_node.specs.ManagerViews.{lookup, pod_given, pods_given};
+ghost use Rattle.pl_node.specs.ManagerViews.{lookup, pod_given, switches};
 ghost use Rattle.pl_manager_rule.specs.ManagerRule.{answer_to, hears_aged, learning, with_asker, with_learnt};
+ghost use Rattle.pl_registry.specs.Askers.{pod_holders};
 ghost use Rattle.pl_registry.specs.Learning.{acts_of_learning, acts_of_release};
 
+use crate::giving::pod_for;
 use crate::telling::say;
 use pl_frame::{Ip4, Mac, SwitchId};
 use pl_node::{ManagerAct, ManagerOutbox, Memory, ToSwitch};
 use pl_pmac::Pmac;
 use pl_registry::{Askers, Learning, Registry, Release};
+use pl_reports::Reports;
 
 /// A switch that asks for the number of its pod is told it.
 pub(crate) fn give_pod(
     askers: &mut Askers,
+    reports: &Reports,
     switch: SwitchId,
     out: &mut ManagerOutbox,
 ) -> Result<(), Memory>
-    requires { length (pods_given askers.old) < 65536 }
-    ensures askers { OnOk result (askers.new ≡ with_asker askers.old switch) }
+    requires { length (switches reports.now) + length (pod_holders askers.old) < 65535 }
+    ensures askers { OnOk result (askers.new ≡ with_asker reports.now askers.old switch) }
     ensures acts { OnOk result (out.new ≡ out.old ++ Say switch (Pod (unwrap_or (pod_given askers.new switch) 0)) ∷ []) }
 {
-    let pod = askers.ask(switch)?;
+    let pod = pod_for(askers, reports, switch)?;
     say(switch, ToSwitch::Pod(pod), out)?;
     Ok(())
 }

@@ -4,10 +4,11 @@ pub use Rattle.pl_manager_rule.proofs.Aging.{AreReleases, aged_count, aged_keeps
 pub use Rattle.pl_manager_rule.proofs.Avoided.{among_placed, among_switches, avoided_is_listed, groups_rise, id_among, id_is, id_itself, IsPlacedAs, listed_is_avoided, neighbours_rise, placed_among, same_is, switches_rise, teller_of_level}
 pub use Rattle.pl_manager_rule.proofs.HeardSwitches.{manager_answers}
 pub use Rattle.pl_manager_rule.proofs.History.{ip_after, value_after, word_after}
-pub use Rattle.pl_manager_rule.proofs.Kept.{ip_exact, ip_total, link_exact, link_total, members_exact, members_total, near_usable, reached_in_order}
+pub use Rattle.pl_manager_rule.proofs.Kept.{boots_in_order, ip_exact, ip_total, link_exact, link_total, members_exact, members_total, near_usable, reached_in_order, stays_in_order}
 pub use Rattle.pl_manager_rule.proofs.Learning.{any_registered, find_mapped, registry_after}
 pub use Rattle.pl_manager_rule.proofs.Newest.{alone_filtered, alone_mapped, alone_recalled, each_alone, find_without, found_apart, found_passes, newest_again, none_recalled, others_recalled}
-pub use Rattle.pl_manager_rule.proofs.Registered.{asker_has_pod, askers_once, pmac_turned, switch_turned}
+pub use Rattle.pl_manager_rule.proofs.FreePods.{apart_then, asks_again, asks_first, first_is_free, least_free, number_stays, one_free, own_number}
+pub use Rattle.pl_manager_rule.proofs.Registered.{asker_has_pod, pmac_turned, switch_turned}
 pub use Rattle.pl_manager_rule.proofs.Repeated.{no_avoid_acts, no_tree_acts, none_differ}
 pub use Rattle.pl_manager_rule.proofs.Sameness.{avoid_lists_alike, ids_alike, parts_alike}
 pub use Rattle.pl_manager_rule.proofs.Speakers.{known_among}

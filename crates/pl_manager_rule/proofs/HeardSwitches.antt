@@ -33,9 +33,9 @@ invalidation_heard : (view : ManagerView) (s : SwitchId) (learnt : Learnt) (new 
     newest view.learnt amac ≡ o → list_all (is_for_heard view s) (invalidation learnt new n o) ≡ true
 invalidation_heard view s learnt new n amac None e = refl
 invalidation_heard view s learnt new n amac (Some old) e =
-    let learners = map (λ a. a.switch) view.learnt.addresses in let members = map (λ m. m.0.0) view.members in
-    let among = among_right old.switch (tellers view.told) (members ++ (view.askers ++ learners))
-    (among_right old.switch members (view.askers ++ learners) (among_right old.switch view.askers learners (newest_heard view.learnt amac old e))) in
+    let learners = map (λ a. a.switch) view.learnt.addresses in let members = map (λ m. m.0.0) view.members in let askers = map (λ g. g.switch) view.pods in
+    let among = among_right old.switch (tellers view.told) (members ++ (askers ++ learners))
+    (among_right old.switch members (askers ++ learners) (among_right old.switch askers learners (newest_heard view.learnt amac old e))) in
     and_from (same_switch s old.switch || is_heard view old.switch) true (now_or_before view s old.switch (inr among)) refl
 
 learning_heard : (view : ManagerView) (s : SwitchId) (after : Learnt) (pmac : Pmac) (amac : Mac) →
@@ -51,9 +51,9 @@ learning_heard view s after pmac amac =
 teller_heard : (view : ManagerView) (s : SwitchId) (x : Pmac) (r : Registration) → registration view.learnt x ≡ Some r →
     (same_switch s r.switch || is_heard view r.switch) ≡ true
 teller_heard view s x r is =
-    let learners = map (λ a. a.switch) view.learnt.addresses in let members = map (λ m. m.0.0) view.members in
-    now_or_before view s r.switch (inr (among_right r.switch (tellers view.told) (members ++ (view.askers ++ learners))
-    (among_right r.switch members (view.askers ++ learners) (among_right r.switch view.askers learners (registered_heard view.learnt x r is)))))
+    let learners = map (λ a. a.switch) view.learnt.addresses in let members = map (λ m. m.0.0) view.members in let askers = map (λ g. g.switch) view.pods in
+    now_or_before view s r.switch (inr (among_right r.switch (tellers view.told) (members ++ (askers ++ learners))
+    (among_right r.switch members (askers ++ learners) (among_right r.switch askers learners (registered_heard view.learnt x r is)))))
 
 releases_heard : (view : ManagerView) (s : SwitchId) (acts : List ManagerAct) → AreReleases view.learnt acts → list_all (is_for_heard view s) acts ≡ true
 releases_heard view s [] all = refl
@@ -66,7 +66,7 @@ speaker_heard : (view : ManagerView) (s : SwitchId) (says : ToSwitch) → list_a
 speaker_heard view s says = and_from (same_switch s s || is_heard view s) true (or_left (same_switch s s) (is_heard view s) (switch_itself s)) refl
 
 reply_heard : (before after : ManagerView) (s : SwitchId) (says : ToManager) → list_all (is_for_heard before s) (reply before after s says) ≡ true
-reply_heard before after s tell.PodWanted = speaker_heard before s (say.Pod (unwrap_or (pod_given after.askers s) 0))
+reply_heard before after s tell.PodWanted = speaker_heard before s (say.Pod (unwrap_or (pod_given after.pods s) 0))
 reply_heard before after s (tell.Learned pmac amac ip) = learning_heard before s after.learnt pmac amac
 reply_heard before after s (tell.Aged pmac number) = releases_heard before s (hears_aged before.learnt pmac number).acts (aged_releases before.learnt pmac number)
 reply_heard before after s (tell.Query asker asker_ip ip) = speaker_heard before s (answer_to asker asker_ip ip (lookup after.learnt ip))

@@ -17,9 +17,9 @@ use Rattle.pl_layouts.proofs.Exports.{pmac_is, switch_itself}
 use Rattle.pl_node.specs.declared.messages.ToManager.{ToManager}
 use Rattle.pl_node.specs.declared.messages.ToManager.TheVariants as tell
 use Rattle.pl_node.specs.HostViews.{ip_cmp}
-use Rattle.pl_node.specs.ManagerViews.{Learnt, LearntAddress, ManagerView, PodGiven, Registration, id_cmp, ip_of, link_cmp, members_cmp, newest, owner, pods_given, registered_as, registration, registry, value_at}
+use Rattle.pl_node.specs.ManagerViews.{Learnt, LearntAddress, ManagerView, Registration, id_cmp, ip_of, link_cmp, members_cmp, newest, owner, registered_as, registration, registry, value_at}
 use Rattle.pl_node.proofs.Exports.{id_total}
-use Rattle.pl_manager_rule.specs.ManagerRule.{ToldAddress, hears_aged, host_of, is_registered, leads_on, learnt_as, manager_hears, recalled, told_again, view_after, with_address, with_asker}
+use Rattle.pl_manager_rule.specs.ManagerRule.{ToldAddress, hears_aged, host_of, is_registered, leads_on, learnt_as, manager_hears, recalled, told_again, view_after, with_address}
 use Rattle.pl_manager_rule.specs.Histories.{Word, ip_said, ip_since, is_released_by, known, link_said, members_said, numbered, numbered_by_word, owner_said, owner_told, place_said, pods_after, pods_asked, registered, releases_address, said_by, said_last}
 use Rattle.pl_manager_rule.proofs.Aging.{aged_count, aged_owners}
 use Rattle.pl_manager_rule.proofs.Avoided.{same_is}
@@ -152,24 +152,13 @@ module _ (k : ℕ) where
       by (tell.Query asker asker_ip ip) = silent (same_switch w.switch s) (value_at members_cmp (known k before).members (s, group))
 
   -- ---- pods and registrations
-  pub pods_are_asked : (words : List Word) → pods_given (known k words).askers ≡ pods_asked words
+  pub pods_are_asked : (words : List Word) → (known k words).pods ≡ pods_asked k words
   unfolding manager_hears
   pods_are_asked [] = refl
-  pods_are_asked (w ∷ before) = by w.says ∙ ap (λ pods. pods_after pods w.switch w.says) (pods_are_asked before)
+  pods_are_asked (w ∷ before) = by w.says ∙ ap (λ pods. pods_after (known k before).told pods w.switch w.says) (pods_are_asked before)
     where
-      asked : (askers : List SwitchId) (s : SwitchId) → pods_given (with_asker askers s) ≡ pods_after (pods_given askers) s tell.PodWanted
-      asked askers s = step (list_any (λ g. same_switch g.switch s) (pods_given askers)) refl
-        where
-          step : (b : Bool) → list_any (λ g. same_switch g.switch s) (pods_given askers) ≡ b →
-              let new : PodGiven = record { switch = s; pod = length (pods_given askers) } in
-              pods_given (cond b askers (s ∷ askers)) ≡ cond b (pods_given askers) (new ∷ pods_given askers)
-          step true e = refl
-          step false e =
-              let new : PodGiven = record { switch = s; pod = length (pods_given askers) } in
-              ap (λ b. cond b (pods_given askers) (new ∷ pods_given askers)) e
-
-      by : (says : ToManager) → pods_given (view_after (known k before) w.switch says).askers ≡ pods_after (pods_given (known k before).askers) w.switch says
-      by tell.PodWanted = asked (known k before).askers w.switch
+      by : (says : ToManager) → (view_after (known k before) w.switch says).pods ≡ pods_after (known k before).told (known k before).pods w.switch says
+      by tell.PodWanted = refl
       by (tell.Place place) = refl
       by (tell.Link u usable) = refl
       by (tell.Learned pmac amac ip) = refl

@@ -1,13 +1,13 @@
 -- What the fabric manager knows stays in order.
-use Rattle.std.proofs.Common.{◌≡◌, ◌⊎◌, ℕ, ◌+◌, Bool, true, false, cond, List, [], ◌∷◌, length, map, Option, Some, None, nat_cmp, refl, sym, ap, ◌∙◌, subst, inl, inr}
+use Rattle.std.proofs.Common.{◌≡◌, ℕ, ◌+◌, Bool, true, false, List, [], ◌∷◌, map, Option, Some, None, nat_cmp, refl, sym, ap, ◌∙◌, subst}
 use Rattle.std.specs.List.{AllByRecursion, filter, IsDistinct, list_any}
 use Rattle.std.specs.List.Sorted.{IsStrictlySortedBy}
 use Rattle.std.specs.Map.{keys_of}
 use Rattle.std.specs.Cmp.{IsTotalOrder}
-use Rattle.std.proofs.lemmas.Bool.{cond_both, false≢true, or_cases, or_left, or_parts, or_right}
+use Rattle.std.proofs.lemmas.Bool.{cond_both, or_parts}
 use Rattle.std.proofs.lemmas.Cmp.{nat_cmp_total, on_total, then_total}
 use Rattle.std.proofs.lemmas.Map.Lookups.{CmpEqualImpliesEq, exact_unsigned}
-use Rattle.pl_lemmas.proofs.Exports.{false_before, true_inside}
+use Rattle.pl_lemmas.proofs.Exports.{true_inside}
 use Rattle.pl_frame.specs.declared.address.Ip4.{Ip4}
 use Rattle.pl_frame.specs.declared.address.Mac.{Mac}
 use Rattle.pl_frame.specs.declared.address.SwitchId.{SwitchId}
@@ -16,16 +16,15 @@ use Rattle.pl_layouts.proofs.Exports.{switch_itself}
 use Rattle.pl_node.specs.declared.messages.ToManager.{ToManager}
 use Rattle.pl_node.specs.declared.messages.ToManager.TheVariants as tell
 use Rattle.pl_node.specs.HostViews.{ip_cmp}
-use Rattle.pl_node.specs.ManagerViews.{Learnt, LearntAddress, ManagerView, PodGiven, booted_manager, id_cmp, link_cmp, members_cmp, newest, pods_given, Told, is_told_usable, neighbours, value_at}
+use Rattle.pl_node.specs.ManagerViews.{Learnt, LearntAddress, ManagerView, booted_manager, id_cmp, link_cmp, members_cmp, newest, Told, is_told_usable, neighbours, value_at}
 use Rattle.pl_node.proofs.Exports.{among_filtered, among_in_order, among_map, among_mapped, id_total, IsAmong}
-use Rattle.pl_manager_rule.specs.ManagerRule.{ToldAddress, host_of, is_registered, learnt_as, manager_hears, recalled, told_again, view_after, with_address, with_asker, with_owner}
+use Rattle.pl_manager_rule.specs.ManagerRule.{ToldAddress, host_of, is_registered, learnt_as, manager_hears, recalled, told_again, view_after, with_address, with_owner}
 use Rattle.pl_manager_rule.specs.Histories.{Word, known}
 use Rattle.pl_manager_rule.specs.Repeats.{TablesAreInOrder}
 use Rattle.pl_manager_rule.proofs.Aging.{aged_once, aged_owners}
-use Rattle.pl_manager_rule.proofs.Avoided.{same_is}
 use Rattle.pl_manager_rule.proofs.Learning.{learnt_registered, same_field, same_recalled}
 use Rattle.pl_node.proofs.Exports.{both_equal, id_exact}
-use Rattle.pl_manager_rule.proofs.Registered.{pmac_turned, switch_turned}
+use Rattle.pl_manager_rule.proofs.Registered.{askers_once, pmac_turned}
 use Rattle.pl_manager_rule.proofs.Tables.{found_key, rising_put}
 
 -- ---- the orders of the tables
@@ -51,43 +50,12 @@ members_exact a b e =
 pub ip_exact : CmpEqualImpliesEq ip_cmp
 ip_exact a b e = ap (λ n. let ip : Ip4 = record { 0 = n } in ip) (exact_unsigned a.0 b.0 e)
 
--- ---- askers
--- each that asked is given a pod
-pub asked_is_given : (askers : List SwitchId) (t : SwitchId) → list_any (λ q. same_switch q t) askers ≡ true →
-    list_any (λ g. same_switch g.switch t) (pods_given askers) ≡ true
-asked_is_given [] t h = absurd (false≢true h)
-asked_is_given (s ∷ askers) t h =
-    by (λ k. asked_is_given askers t k) (list_any (λ g. same_switch g.switch s) (pods_given askers)) refl
-    (or_cases (same_switch s t) (list_any (λ q. same_switch q t) askers) h)
-  where
-    new : PodGiven
-    new = record { switch = s; pod = length (pods_given askers) }
-
-    by : (list_any (λ q. same_switch q t) askers ≡ true → list_any (λ g. same_switch g.switch t) (pods_given askers) ≡ true) →
-        (b : Bool) → list_any (λ g. same_switch g.switch s) (pods_given askers) ≡ b →
-        (same_switch s t ≡ true) ⊎ (list_any (λ q. same_switch q t) askers ≡ true) →
-        list_any (λ g. same_switch g.switch t) (cond b (pods_given askers) (new ∷ pods_given askers)) ≡ true
-    by rest true given (inl is) = subst (λ u. list_any (λ g. same_switch g.switch u) (pods_given askers) ≡ true) (same_is s t is) given
-    by rest true given (inr k) = rest k
-    by rest false given (inl is) = or_left (same_switch s t) (list_any (λ g. same_switch g.switch t) (pods_given askers)) is
-    by rest false given (inr k) = or_right (same_switch s t) (list_any (λ g. same_switch g.switch t) (pods_given askers)) (rest k)
-
 -- none of them is like this one
 none_alike : {K : Type 0} (eq : K → K → Bool) → ((a b : K) → eq a b ≡ eq b a) → (k : K) (ks : List K) →
     list_any (λ q. eq q k) ks ≡ false → AllByRecursion (λ q. eq k q ≡ false) ks
 none_alike eq turned k [] h = tt
 none_alike eq turned k (q ∷ ks) h =
     let two = or_parts (eq q k) (list_any (λ p. eq p k) ks) h in (turned k q ∙ two.0, none_alike eq turned k ks two.1)
-
-askers_kept : (askers : List SwitchId) (s : SwitchId) → IsDistinct same_switch askers → IsDistinct same_switch (with_asker askers s)
-unfolding IsDistinct
-askers_kept askers s once =
-    cond_both (list_any (λ g. same_switch g.switch s) (pods_given askers)) askers (s ∷ askers) (IsDistinct same_switch) (λ asked. once)
-    (λ first. (
-      none_alike same_switch switch_turned s askers
-          (false_before (list_any (λ q. same_switch q s) askers) (list_any (λ g. same_switch g.switch s) (pods_given askers)) (asked_is_given askers s) first),
-      once,
-    ))
 
 -- ---- addresses
 addresses_kept : (learnt : Learnt) (new : ToldAddress) → IsDistinct same_pmac (map (λ a. a.pmac) learnt.addresses) →
@@ -137,7 +105,7 @@ kept view s tell.PodWanted o = record {
   places = o.places;
   links = o.links;
   members = o.members;
-  askers = askers_kept view.askers s o.askers;
+  askers = askers_once view.told view.pods s o.askers;
   addresses = o.addresses;
   owners = o.owners;
 }

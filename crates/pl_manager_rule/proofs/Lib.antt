@@ -1,6 +1,7 @@
 pub mod Avoided
 pub mod HeardSwitches
 pub mod Registered
+pub mod FreePods
 pub mod Parts
 pub mod Sameness
 pub mod Tables

@@ -1,5 +1,5 @@
--- Pods are numbered in the order in which they come, each once.
-use Rattle.std.proofs.Common.{◌≡◌, ℕ, suc, ◌+◌, ◌&&◌, ◌||◌, Bool, true, false, cond, List, [], ◌∷◌, ◌++◌, map, reverse, length, Some, is_some, IsSome, refl, sym, ap, ◌∙◌, subst, arith, eq-eqb}
+-- Who asks for a pod stands once, and has a number then.
+use Rattle.std.proofs.Common.{◌≡◌, ℕ, suc, ◌+◌, ◌&&◌, ◌||◌, Bool, true, false, cond, List, [], ◌∷◌, ◌++◌, map, reverse, length, Some, is_some, IsSome, refl, sym, ap, ◌∙◌, eq-eqb}
 use Rattle.std.specs.List.{AllByRecursion, IsDistinct, find, list_any, range_with_len}
 use Rattle.std.specs.Option.{option_map}
 use Rattle.std.proofs.lemmas.Bool.{false≢true, or_parts}
@@ -9,7 +9,8 @@ use Rattle.pl_lemmas.proofs.Exports.{range_more}
 use Rattle.pl_frame.specs.declared.address.SwitchId.{SwitchId}
 use Rattle.pl_pmac.specs.declared.pmac.Pmac.{Pmac}
 use Rattle.pl_layouts.specs.Equality.{same_pmac, same_switch}
-use Rattle.pl_node.specs.ManagerViews.{PodGiven, pod_given, pods_given}
+use Rattle.pl_node.specs.declared.pod_given.PodGiven.{PodGiven}
+use Rattle.pl_node.specs.ManagerViews.{Told, first_free, pod_given}
 use Rattle.pl_manager_rule.specs.ManagerRule.{with_asker}
 
 -- one more number, the next one
@@ -40,29 +41,17 @@ pmac_turned a b = λ i. ((nat_eq_equiv.symm a.pod b.pod i && nat_eq_equiv.symm a
     && nat_eq_equiv.symm a.vmid b.vmid i
 
 -- ---- pods
-pub pods_in_order : (askers : List SwitchId) → reverse (map (λ g. g.pod) (pods_given askers)) ≡ range_with_len 0 (length (pods_given askers))
-pods_in_order [] = refl
-pods_in_order (s ∷ askers) = by (pods_in_order askers) (list_any (λ g. same_switch g.switch s) (pods_given askers))
-  where
-    by : reverse (map (λ g. g.pod) (pods_given askers)) ≡ range_with_len 0 (length (pods_given askers)) → (b : Bool) →
-        let new : PodGiven = record { switch = s; pod = length (pods_given askers) } in
-        let all = cond b (pods_given askers) (new ∷ pods_given askers) in
-        reverse (map (λ g. g.pod) all) ≡ range_with_len 0 (length all)
-    by rest true = rest
-    by rest false =
-        let new : PodGiven = record { switch = s; pod = length (pods_given askers) } in
-        one_more_item (λ g. g.pod) 0 new (pods_given askers) (omega arith) rest
-
-pub askers_once : (askers : List SwitchId) → IsDistinct same_switch (map (λ g. g.switch) (pods_given askers))
+-- each that asked stands once
+pub askers_once : (told : Told) (pods : List PodGiven) (s : SwitchId) → IsDistinct same_switch (map (λ g. g.switch) pods) →
+    IsDistinct same_switch (map (λ g. g.switch) (with_asker told pods s))
 unfolding IsDistinct
-askers_once [] = tt
-askers_once (s ∷ askers) = by (askers_once askers) (list_any (λ g. same_switch g.switch s) (pods_given askers)) refl
+askers_once told pods s once = by (list_any (λ g. same_switch g.switch s) pods) refl
   where
-    by : IsDistinct same_switch (map (λ g. g.switch) (pods_given askers)) → (b : Bool) → list_any (λ g. same_switch g.switch s) (pods_given askers) ≡ b →
-        let new : PodGiven = record { switch = s; pod = length (pods_given askers) } in
-        IsDistinct same_switch (map (λ g. g.switch) (cond b (pods_given askers) (new ∷ pods_given askers)))
-    by rest true e = rest
-    by rest false e = (none_like (λ g. g.switch) same_switch switch_turned s (pods_given askers) e, rest)
+    by : (b : Bool) → list_any (λ g. same_switch g.switch s) pods ≡ b →
+        let new : PodGiven = record { switch = s; pod = first_free told pods } in
+        IsDistinct same_switch (map (λ g. g.switch) (cond b pods (new ∷ pods)))
+    by true e = once
+    by false e = (none_like (λ g. g.switch) same_switch switch_turned s pods e, once)
 
 pub found_where_any : (test : PodGiven → Bool) (gs : List PodGiven) → list_any test gs ≡ true → is_some (option_map (λ g. g.pod) (find test gs)) ≡ true
 found_where_any test [] h = absurd (false≢true h)
@@ -74,18 +63,13 @@ found_where_any test (g ∷ gs) h = by (λ k. found_where_any test gs k) (test g
     by rest false k = rest k
 
 -- one that asks has a number then
-pub asker_has_pod : (askers : List SwitchId) (s : SwitchId) → IsSome (pod_given (with_asker askers s) s)
-asker_has_pod askers s = by (list_any (λ g. same_switch g.switch s) (pods_given askers)) refl
+pub asker_has_pod : (told : Told) (pods : List PodGiven) (s : SwitchId) → IsSome (pod_given (with_asker told pods s) s)
+asker_has_pod told pods s = by (list_any (λ g. same_switch g.switch s) pods) refl
   where
-    -- the first one that asks is given the next number
-    first : list_any (λ g. same_switch g.switch s) (pods_given askers) ≡ false → IsSome (pod_given (s ∷ askers) s)
-    first e =
-        let new : PodGiven = record { switch = s; pod = length (pods_given askers) } in
+    by : (b : Bool) → list_any (λ g. same_switch g.switch s) pods ≡ b →
+        let new : PodGiven = record { switch = s; pod = first_free told pods } in IsSome (pod_given (cond b pods (new ∷ pods)) s)
+    by true e = found_where_any (λ g. same_switch g.switch s) pods e
+    by false e =
+        let new : PodGiven = record { switch = s; pod = first_free told pods } in
         let own : same_switch s s ≡ true = eq-eqb s.0 s.0 refl in
-        subst (λ gs. IsSome (option_map (λ g. g.pod) (find (λ g. same_switch g.switch s) gs)))
-        (sym (ap (λ b. cond b (pods_given askers) (new ∷ pods_given askers)) e))
-        (ap (λ c. is_some (option_map (λ g. g.pod) (cond c (Some new) (find (λ g. same_switch g.switch s) (pods_given askers))))) own)
-
-    by : (b : Bool) → list_any (λ g. same_switch g.switch s) (pods_given askers) ≡ b → IsSome (pod_given (cond b askers (s ∷ askers)) s)
-    by true e = found_where_any (λ g. same_switch g.switch s) (pods_given askers) e
-    by false e = first e
+        ap (λ c. is_some (option_map (λ g. g.pod) (cond c (Some new) (find (λ g. same_switch g.switch s) pods)))) own

@@ -15,7 +15,8 @@ use Rattle.pl_node.specs.declared.messages.ToManager.{ToManager}
 use Rattle.pl_node.specs.declared.messages.ToManager.TheVariants as tell
 use Rattle.pl_node.specs.HostViews.{ip_cmp}
 use Rattle.pl_node.specs.ManagerFacts.{groups}
-use Rattle.pl_node.specs.ManagerViews.{Learnt, LearntAddress, ManagerView, Recall, Registration, Told, id_cmp, link_cmp, members_cmp, newest, pods_given, recall_of, registration, registry, switches}
+use Rattle.pl_node.specs.declared.pod_given.PodGiven.{PodGiven}
+use Rattle.pl_node.specs.ManagerViews.{Learnt, LearntAddress, ManagerView, Recall, Registration, Told, first_free, id_cmp, link_cmp, members_cmp, newest, recall_of, registration, registry, switches}
 use Rattle.pl_node.specs.AvoidLists.{avoid_list}
 use Rattle.pl_manager_rule.specs.ManagerRule.{LearntStep, ManagerStep, ToldAddress, acts_of, ages_now, avoid_acts, can_release, counts, hears_aged, host_of, invalidation, is_registered, learnt_as, manager_hears, nothing_said, part_in, recalled, releases, releases_as, releases_both, reply, same_avoid_list, same_part, told_again, tree_acts, tree_acts_of, view_after, with_address, with_aged, with_learnt, with_owner}
 use Rattle.pl_manager_rule.specs.Repeats.{HasToldLast, IsCounted, IsKeptBehind, IsKnownAddress, TablesAreInOrder, answers}
@@ -195,8 +196,8 @@ view_same view s (tell.Link u usable) order last =
     let same = put_again link_cmp link_total link_exact view.told.links (s, u) usable order.links last in
     ap (λ table. record view { told = record view.told { links = table } }) same
 view_same view s tell.PodWanted order last =
-    ap (λ b. record view { askers = cond b view.askers (s ∷ view.askers) })
-    (found_any (λ g. g.pod) (λ g. same_switch g.switch s) (pods_given view.askers) last)
+    let new : PodGiven = record { switch = s; pod = first_free view.told view.pods } in
+    ap (λ b. record view { pods = cond b view.pods (new ∷ view.pods) }) (found_any (λ g. g.pod) (λ g. same_switch g.switch s) view.pods last)
 view_same view s (tell.Learned pmac amac ip) order last = ap (λ learnt. record view { learnt = learnt }) (told_same view s pmac amac ip order last.0 last.1)
 view_same view s (tell.Aged pmac number) order last = ap (λ learnt. record view { learnt = learnt }) (ap (λ (step : LearntStep). step.learnt) (aged_same view.learnt pmac number order.addresses last))
 view_same view s (tell.Query asker asker_ip ip) order last = refl

@@ -11,7 +11,8 @@ use Rattle.pl_layouts.specs.Equality.{same_pmac, same_switch}
 use Rattle.pl_layouts.proofs.Exports.{switch_itself}
 use Rattle.pl_node.specs.declared.messages.ToManager.{ToManager}
 use Rattle.pl_node.specs.declared.messages.ToManager.TheVariants as tell
-use Rattle.pl_node.specs.ManagerViews.{Learnt, LearntAddress, ManagerView, Registration, id_cmp, is_heard, is_newest_of, link_cmp, members_cmp, newest, pods_given, registered_as, registration, speakers, switches, tellers}
+use Rattle.pl_node.specs.declared.pod_given.PodGiven.{PodGiven}
+use Rattle.pl_node.specs.ManagerViews.{Learnt, LearntAddress, ManagerView, Registration, id_cmp, is_heard, is_newest_of, link_cmp, members_cmp, newest, Told, first_free, registered_as, registration, speakers, switches, tellers}
 use Rattle.pl_node.proofs.Exports.{among_append, among_filter, among_left, among_map, among_mapped, among_ordered, among_right, any_among, IsAmong}
 use Rattle.pl_manager_rule.specs.ManagerRule.{ToldAddress, ages_now, hears_aged, is_registered, learnt_as, recalled, told_again, view_after, with_address, with_asker}
 use Rattle.pl_manager_rule.proofs.Aging.{aged_keeps}
@@ -52,10 +53,11 @@ put_ones {B} {X} R es s b v t h =
           (among_mapped (λ (e : (SwitchId × B) × X). e.0.0) was.0 es was.1))
     ]
 
-asker_ones : (askers : List SwitchId) (s : SwitchId) → IsWithOne s (with_asker askers s) askers
-asker_ones askers s =
-    cond_both (list_any (λ g. same_switch g.switch s) (pods_given askers)) askers (s ∷ askers) (λ xs. IsWithOne s xs askers)
-    (λ asked. same_ones s askers) (λ first t h. h)
+asker_ones : (told : Told) (pods : List PodGiven) (s : SwitchId) → IsWithOne s (map (λ g. g.switch) (with_asker told pods s)) (map (λ g. g.switch) pods)
+asker_ones told pods s =
+    let new : PodGiven = record { switch = s; pod = first_free told pods } in
+    cond_both (list_any (λ g. same_switch g.switch s) pods) pods (new ∷ pods) (λ those. IsWithOne s (map (λ g. g.switch) those) (map (λ g. g.switch) pods))
+    (λ asked. same_ones s (map (λ g. g.switch) pods)) (λ first t h. h)
 
 address_ones : (learnt : Learnt) (new : ToldAddress) →
     IsWithOne new.switch (map (λ a. a.switch) (with_address learnt new)) (map (λ a. a.switch) learnt.addresses)
@@ -90,38 +92,41 @@ module _ (view : ManagerView) (s : SwitchId) where
   abbrev members : List SwitchId
   members = map (λ m. m.0.0) view.members
 
+  abbrev askers : List SwitchId
+  askers = map (λ g. g.switch) view.pods
+
   abbrev learners : List SwitchId
   learners = map (λ a. a.switch) view.learnt.addresses
 
   with_one : (ps ls ms qs rs : List SwitchId) → IsWithOne s ps places → IsWithOne s ls links → IsWithOne s ms members →
-      IsWithOne s qs view.askers → IsWithOne s rs learners → IsWithOne s ((ps ++ ls) ++ (ms ++ (qs ++ rs))) (speakers view)
+      IsWithOne s qs askers → IsWithOne s rs learners → IsWithOne s ((ps ++ ls) ++ (ms ++ (qs ++ rs))) (speakers view)
   with_one ps ls ms qs rs p l m a r =
-      both_ones s (ps ++ ls) (ms ++ (qs ++ rs)) (places ++ links) (members ++ (view.askers ++ learners))
+      both_ones s (ps ++ ls) (ms ++ (qs ++ rs)) (places ++ links) (members ++ (askers ++ learners))
       (both_ones s ps ls places links p l)
-      (both_ones s ms (qs ++ rs) members (view.askers ++ learners) m (both_ones s qs rs view.askers learners a r))
+      (both_ones s ms (qs ++ rs) members (askers ++ learners) m (both_ones s qs rs askers learners a r))
 
   pub speakers_after : (says : ToManager) → IsWithOne s (speakers (view_after view s says)) (speakers view)
   speakers_after (tell.Place place) =
-      with_one _ links members view.askers learners (λ t h. among_put id_cmp view.told.places s t place h)
-      (same_ones s links) (same_ones s members) (same_ones s view.askers) (same_ones s learners)
+      with_one _ links members askers learners (λ t h. among_put id_cmp view.told.places s t place h)
+      (same_ones s links) (same_ones s members) (same_ones s askers) (same_ones s learners)
   speakers_after (tell.Link u usable) =
-      with_one places _ members view.askers learners (same_ones s places)
-      (put_ones link_cmp view.told.links s u usable) (same_ones s members) (same_ones s view.askers) (same_ones s learners)
+      with_one places _ members askers learners (same_ones s places)
+      (put_ones link_cmp view.told.links s u usable) (same_ones s members) (same_ones s askers) (same_ones s learners)
   speakers_after tell.PodWanted =
       with_one places links members _ learners (same_ones s places)
-      (same_ones s links) (same_ones s members) (asker_ones view.askers s) (same_ones s learners)
+      (same_ones s links) (same_ones s members) (asker_ones view.told view.pods s) (same_ones s learners)
   speakers_after (tell.Learned pmac amac ip) =
-      with_one places links members view.askers _ (same_ones s places)
-      (same_ones s links) (same_ones s members) (same_ones s view.askers)
+      with_one places links members askers _ (same_ones s places)
+      (same_ones s links) (same_ones s members) (same_ones s askers)
       (address_ones view.learnt (record { switch = s; pmac = pmac; amac = amac; ip = ip }))
   speakers_after (tell.Aged pmac number) =
-      with_one places links members view.askers _ (same_ones s places)
-      (same_ones s links) (same_ones s members) (same_ones s view.askers)
+      with_one places links members askers _ (same_ones s places)
+      (same_ones s links) (same_ones s members) (same_ones s askers)
       (λ t h. inr (aged_tellers view.learnt pmac number t h))
   speakers_after (tell.Query asker asker_ip ip) = same_ones s (speakers view)
   speakers_after (tell.Members group any) =
-      with_one places links _ view.askers learners (same_ones s places)
-      (same_ones s links) (put_ones members_cmp view.members s group any) (same_ones s view.askers) (same_ones s learners)
+      with_one places links _ askers learners (same_ones s places)
+      (same_ones s links) (put_ones members_cmp view.members s group any) (same_ones s askers) (same_ones s learners)
 
   pub among_is_heard : (t : SwitchId) → IsAmong t (speakers view) → is_heard view t ≡ true
   among_is_heard t h = any_among (λ c. same_switch c t) t (speakers view) h (switch_itself t)
@@ -136,7 +141,7 @@ module _ (view : ManagerView) (s : SwitchId) where
   listed_is_heard says t h =
       let after = view_after view s says in
       now_or_before t (speakers_after says t
-      (among_left t (tellers after.told) (map (λ m. m.0.0) after.members ++ (after.askers ++ map (λ a. a.switch) after.learnt.addresses))
+      (among_left t (tellers after.told) (map (λ m. m.0.0) after.members ++ (map (λ g. g.switch) after.pods ++ map (λ a. a.switch) after.learnt.addresses))
       (among_ordered id_cmp t (tellers after.told) h)))
 
 pub known_among : (t : SwitchId) (xs : List SwitchId) → list_any (λ c. same_switch c t) xs ≡ true → IsAmong t xs

@@ -69,7 +69,7 @@ known_now learnt s pmac amac (Some ip) =
 last_now : (view : ManagerView) (s : SwitchId) (says : ToManager) → CanBeRepeated says → HasToldLast (view_after view s says) s says
 last_now view s (tell.Place place) can = value_put id_cmp id_total view.told.places s place
 last_now view s (tell.Link u usable) can = value_put link_cmp link_total view.told.links (s, u) usable
-last_now view s tell.PodWanted can = asker_has_pod view.askers s
+last_now view s tell.PodWanted can = asker_has_pod view.told view.pods s
 last_now view s (tell.Learned pmac amac ip) can = (
   registered_now view.learnt (record { switch = s; pmac = pmac; amac = amac; ip = ip }),
   known_now view.learnt s pmac amac ip,

@@ -1,5 +1,5 @@
 -- What the switches told the fabric manager since boot, all of it: the newest word stands first.
-use Rattle.std.specs.Prelude.{ℕ, ◌+◌, ◌==◌, Bool, false, not, if◌then◌else◌, List, [], ◌∷◌, ◌++◌, length, Option, Some, None, is_some}
+use Rattle.std.specs.Prelude.{ℕ, ◌+◌, ◌==◌, Bool, false, not, if◌then◌else◌, List, [], ◌∷◌, ◌++◌, Option, Some, None, is_some}
 use Rattle.std.specs.List.{filter, list_any}
 use Rattle.std.specs.Option.{option_map_or, option_or}
 use Rattle.pl_frame.specs.declared.address.Ip4.{Ip4}
@@ -13,8 +13,9 @@ use Rattle.pl_node.specs.declared.acts.ManagerAct.TheVariants.{Say}
 use Rattle.pl_node.specs.declared.messages.ToManager.{ToManager}
 use Rattle.pl_node.specs.declared.messages.ToManager.TheVariants as tell
 use Rattle.pl_node.specs.declared.messages.ToSwitch.TheVariants as say
-use Rattle.pl_node.specs.ManagerViews.{Learnt, ManagerView, PodGiven, Registration, booted_manager, registration}
-use Rattle.pl_manager_rule.specs.ManagerRule.{host_of, manager_hears}
+use Rattle.pl_node.specs.declared.pod_given.PodGiven.{PodGiven}
+use Rattle.pl_node.specs.ManagerViews.{Learnt, ManagerView, Registration, Told, booted_manager, registration}
+use Rattle.pl_manager_rule.specs.ManagerRule.{host_of, manager_hears, with_asker}
 
 -- a switch told this
 pub record Word : Type 0 where
@@ -55,16 +56,15 @@ abbrev pub ip_said : Pmac → ToManager → Option Ip4
 ip_said x (tell.Learned pmac amac ip) = if same_pmac pmac x then ip else None
 ip_said x says = None
 
--- a switch that asks for the first time is given the next pod
-abbrev pub pods_after : List PodGiven → SwitchId → ToManager → List PodGiven
-pods_after pods s tell.PodWanted =
-    if list_any (λ g. same_switch g.switch s) pods then pods else record { switch = s; pod = length pods } ∷ pods
-pods_after pods s says = pods
+-- a switch that asks for the first time is given the smallest free pod
+abbrev pub pods_after : Told → List PodGiven → SwitchId → ToManager → List PodGiven
+pods_after told pods s tell.PodWanted = with_asker told pods s
+pods_after told pods s says = pods
 
 -- the pods that were given, in the order of asking, the last one first
-abbrev pub pods_asked : List Word → List PodGiven
-pods_asked [] = []
-pods_asked (w ∷ before) = pods_after (pods_asked before) w.switch w.says
+abbrev pub pods_asked : ℕ → List Word → List PodGiven
+pods_asked k [] = []
+pods_asked k (w ∷ before) = pods_after (known k before).told (pods_asked k before) w.switch w.says
 
 -- ---- addresses: which were numbered, and which were released since
 abbrev pub releases_address : Pmac → ManagerAct → Bool

@@ -19,7 +19,8 @@ use Rattle.pl_node.specs.declared.messages.ToSwitch.{ToSwitch}
 use Rattle.pl_node.specs.declared.messages.ToSwitch.TheVariants as say
 use Rattle.pl_node.specs.declared.messages.TreePart.{TreePart}
 use Rattle.pl_node.specs.HostViews.{ip_cmp}
-use Rattle.pl_node.specs.ManagerViews.{Told, Learnt, LearntAddress, ManagerView, Recall, Registration, has_aged, id_cmp, ip_of, is_led_to, link_cmp, lookup, members_cmp, newest, number_behind, pod_given, pods_given, recall_of, registered_as, registration, registry, switches}
+use Rattle.pl_node.specs.declared.pod_given.PodGiven.{PodGiven}
+use Rattle.pl_node.specs.ManagerViews.{Told, Learnt, LearntAddress, ManagerView, Recall, Registration, first_free, has_aged, id_cmp, ip_of, is_led_to, link_cmp, lookup, members_cmp, newest, number_behind, pod_given, recall_of, registered_as, registration, registry, switches}
 use Rattle.pl_node.specs.AvoidLists.{avoid_list, avoided_cmp}
 use Rattle.pl_node.specs.Trees.{tree_part}
 use Rattle.pl_node.specs.ManagerDuties.{ManagerRule}
@@ -32,9 +33,11 @@ with_place told s place = record told { places = insert_entry id_cmp told.places
 abbrev pub with_link : Told → SwitchId → SwitchId → Bool → Told
 with_link told s u usable = record told { links = insert_entry link_cmp told.links (s, u) usable }
 
--- who asked for a pod once a switch asks
-abbrev pub with_asker : List SwitchId → SwitchId → List SwitchId
-with_asker askers s = if list_any (λ g. same_switch g.switch s) (pods_given askers) then askers else s ∷ askers
+-- A switch asks for a pod. One that asks for the first time is given the smallest number that stands in no place told, and that was given to
+-- no other one; one that asks again keeps its number.
+abbrev pub with_asker : Told → List PodGiven → SwitchId → List PodGiven
+with_asker told pods s =
+    if list_any (λ g. same_switch g.switch s) pods then pods else record { switch = s; pod = first_free told pods } ∷ pods
 
 -- a switch tells a pseudo address, the actual address of its host, and maybe the IPv4 address
 pub record ToldAddress : Type 0 where
@@ -144,7 +147,7 @@ hears_aged learnt x number =
 abbrev pub view_after : ManagerView → SwitchId → ToManager → ManagerView
 view_after view s (tell.Place place) = record view { told = with_place view.told s place }
 view_after view s (tell.Link u usable) = record view { told = with_link view.told s u usable }
-view_after view s tell.PodWanted = record view { askers = with_asker view.askers s }
+view_after view s tell.PodWanted = record view { pods = with_asker view.told view.pods s }
 view_after view s (tell.Learned pmac amac ip) =
     record view { learnt = with_learnt view.learnt (record { switch = s; pmac = pmac; amac = amac; ip = ip }) }
 view_after view s (tell.Aged pmac number) = record view { learnt = (hears_aged view.learnt pmac number).learnt }
@@ -171,7 +174,7 @@ answer_to asker asker_ip ip (Some pmac) = say.Answer asker asker_ip ip pmac
 
 -- what the message itself brings about; every pod that is asked for was given a number
 abbrev pub reply : ManagerView → ManagerView → SwitchId → ToManager → List ManagerAct
-reply before after s tell.PodWanted = Say s (say.Pod (unwrap_or (pod_given after.askers s) 0)) ∷ []
+reply before after s tell.PodWanted = Say s (say.Pod (unwrap_or (pod_given after.pods s) 0)) ∷ []
 reply before after s (tell.Learned pmac amac ip) = learning before.learnt after.learnt pmac amac
 reply before after s (tell.Aged pmac number) = (hears_aged before.learnt pmac number).acts
 reply before after s (tell.Query asker asker_ip ip) = Say s (answer_to asker asker_ip ip (lookup after.learnt ip)) ∷ []

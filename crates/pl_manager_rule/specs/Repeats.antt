@@ -22,7 +22,7 @@ pub record TablesAreInOrder (view : ManagerView) : Type 0 where
   pub places : IsStrictlySortedBy id_cmp (keys_of view.told.places)
   pub links : IsStrictlySortedBy link_cmp (keys_of view.told.links)
   pub members : IsStrictlySortedBy members_cmp (keys_of view.members)
-  pub askers : IsDistinct same_switch view.askers
+  pub askers : IsDistinct same_switch (map (λ g. g.switch) view.pods)
   pub addresses : IsDistinct same_pmac (map (λ a. a.pmac) view.learnt.addresses)
   pub owners : IsStrictlySortedBy ip_cmp (keys_of view.learnt.owners)
 
@@ -52,7 +52,7 @@ pub record IsCounted (learnt : Learnt) (x : Pmac) : Type 0 where
 abbrev pub HasToldLast : ManagerView → SwitchId → ToManager → Type 0
 HasToldLast view s (tell.Place place) = value_at id_cmp view.told.places s ≡ Some place
 HasToldLast view s (tell.Link u usable) = value_at link_cmp view.told.links (s, u) ≡ Some usable
-HasToldLast view s tell.PodWanted = IsSome (pod_given view.askers s)
+HasToldLast view s tell.PodWanted = IsSome (pod_given view.pods s)
 HasToldLast view s (tell.Learned pmac amac ip) = IsSome (registration view.learnt pmac) × IsKnownAddress view.learnt pmac ip
 HasToldLast view s (tell.Aged pmac number) = counts view.learnt pmac number ≡ true → IsCounted view.learnt pmac
 HasToldLast view s (tell.Query asker asker_ip ip) = Unit {0}
@@ -65,6 +65,6 @@ CanBeRepeated says = Unit {0}
 
 -- a wish for a pod and a question are answered each time
 abbrev pub answers : ManagerView → SwitchId → ToManager → List ManagerAct
-answers view s tell.PodWanted = Say s (say.Pod (unwrap_or (pod_given view.askers s) 0)) ∷ []
+answers view s tell.PodWanted = Say s (say.Pod (unwrap_or (pod_given view.pods s) 0)) ∷ []
 answers view s (tell.Query asker asker_ip ip) = Say s (answer_to asker asker_ip ip (lookup view.learnt ip)) ∷ []
 answers view s says = []

@@ -1,4 +1,4 @@
-ghost use Rattle.std.specs.Prelude.{◌≡◌, ◌↔◌, ℕ, List, Contains, reverse, find, length, map, Option, IfSome, IsSome, IsTrue};
+ghost use Rattle.std.specs.Prelude.{◌≡◌, ◌≢◌, ◌↔◌, ◌<◌, ℕ, List, Contains, reverse, find, map, Option, Some, None, IfSome, IsSome, IsTrue, true};
 ghost use Rattle.std.specs.List.{IsDistinct, range_with_len};
 ghost use Rattle.std.specs.List.Sorted.{IsStrictlySortedBy};
 ghost use Rattle.std.specs.Option.{option_and_then};
@@ -6,7 +6,8 @@ ghost use Rattle.std.specs.Ordering.{nat_cmp};
 ghost use Rattle.pl_frame.specs.declared.address.SwitchId.{SwitchId};
 ghost use Rattle.pl_node.specs.declared.messages.TreePart.{TreePart};
 ghost use Rattle.pl_layouts.specs.Equality.{same_mac, same_pmac, same_switch};
-ghost use Rattle.pl_node.specs.ManagerViews.{ManagerView, Members, Told, alive_at_level, booted_manager, id_cmp, ip_of, link_cmp, members_cmp, neighbours, newest, owner, pod_given, pods_given, registration, registry, switches, value_at};
+ghost use Rattle.pl_node.specs.declared.pod_given.PodGiven.{PodGiven};
+ghost use Rattle.pl_node.specs.ManagerViews.{ManagerView, Members, Told, alive_at_level, booted_manager, id_cmp, ip_of, is_taken, link_cmp, members_cmp, neighbours, newest, owner, place_of, pod_given, registration, registry, switches, value_at};
 ghost use Rattle.pl_node.specs.AvoidLists.{Avoids, avoid_list, avoided_cmp};
 ghost use Rattle.pl_node.specs.Trees.{needed_edges, tree_part};
 ghost use Rattle.pl_manager_rule.specs.ManagerRule.{manager_hears, manager_rule, same_avoid_list, same_part, with_asker};
@@ -57,13 +58,16 @@ pub fn addresses_are_numbered_in_order()
     ensures once { (k : ℕ) (words : List Word) → IsDistinct same_pmac (map (λ r. r.pmac) (registry (known k words).learnt)) }
 {}
 
-/// Pods have the numbers 0, 1, 2 and so on in the order in which switches first asked, each switch
-/// once; and one that asks has a number then.
-pub fn pods_are_numbered_in_order()
-    ensures numbers { (askers : List SwitchId) → reverse (map (λ g. g.pod) (pods_given askers))
-        ≡ range_with_len 0 (length (pods_given askers)) }
-    ensures once { (askers : List SwitchId) → IsDistinct same_switch (map (λ g. g.switch) (pods_given askers)) }
-    ensures asked { (askers : List SwitchId) (s : SwitchId) → IsSome (pod_given (with_asker askers s) s) }
+/// A switch that asks for a pod for the first time is given the smallest number that stands in no place
+/// told, and that was given to no other switch. One that asks has a number then.
+pub fn a_pod_is_free_when_it_is_given()
+    ensures untold { (told : Told) (pods : List PodGiven) (s t : SwitchId) (n : ℕ) → pod_given pods s ≡ None →
+        pod_given (with_asker told pods s) s ≡ Some n → (place_of told t).pod ≢ Some n }
+    ensures ungiven { (told : Told) (pods : List PodGiven) (s t : SwitchId) (n : ℕ) → pod_given pods s ≡ None →
+        pod_given (with_asker told pods s) s ≡ Some n → pod_given pods t ≢ Some n }
+    ensures smallest { (told : Told) (pods : List PodGiven) (s : SwitchId) (n m : ℕ) → pod_given pods s ≡ None →
+        pod_given (with_asker told pods s) s ≡ Some n → m < n → is_taken told pods m ≡ true }
+    ensures asked { (told : Told) (pods : List PodGiven) (s : SwitchId) → IsSome (pod_given (with_asker told pods s) s) }
 {}
 
 /// The manager sends messages to switches that it heard before, and to the one that speaks; and it
@@ -90,7 +94,7 @@ pub fn a_repeated_word_changes_nothing()
 {}
 
 /// What the manager knows, however long its history, is the last that was said of each place, link and group;
-/// the pods in the order of first asking; the addresses that were given numbers and not released since; of each
+/// the pods, each the smallest that was free when its switch first asked; the addresses that were given numbers and not released since; of each
 /// the IPv4 address that was said last with it since then; the host of the address with which an IPv4 address
 /// was told last; and as the newest address of a host the last of it that was given a number, unless that was
 /// released.
@@ -101,7 +105,7 @@ pub fn what_is_known_is_what_was_told_last()
         value_at link_cmp (known k words).told.links (s, u) ≡ said_last (said_by s (link_said u)) words }
     ensures members { (k : ℕ) (words : List Word) (s : SwitchId) (group : ℕ) →
         value_at members_cmp (known k words).members (s, group) ≡ said_last (said_by s (members_said group)) words }
-    ensures pods { (k : ℕ) (words : List Word) → pods_given (known k words).askers ≡ pods_asked words }
+    ensures pods { (k : ℕ) (words : List Word) → (known k words).pods ≡ pods_asked k words }
     ensures registrations { (k : ℕ) (words : List Word) → registry (known k words).learnt ≡ registered k words }
     ensures newest { (k : ℕ) (words : List Word) (amac : Mac) →
         newest (known k words).learnt amac ≡ option_and_then (if_still (known k words).learnt) (find (λ r. same_mac r.amac amac) (numbered k words)) }

@@ -2,6 +2,8 @@ pub mod Among
 pub mod Ordering
 pub mod AvoidOrder
 pub mod AvoidRows
+pub mod AvoidWords
+pub mod Shown
 pub mod Numbered
 pub mod Booted
 pub mod Ports

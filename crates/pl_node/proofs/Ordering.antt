@@ -1,13 +1,14 @@
 -- Rising lists with the same items are the same.
-use Rattle.std.proofs.Common.{◌≡◌, List, [], ◌∷◌, Ordering, Less, Equal, Greater, refl, sym, ap, ◌∙◌, subst, inl, inr}
-use Rattle.std.specs.List.{AllByRecursion}
+use Rattle.std.proofs.Common.{◌≡◌, ◌≤◌, Bool, List, [], ◌∷◌, length, Ordering, Less, Equal, Greater, refl, sym, ap, ◌∙◌, subst, inl, inr}
+use Rattle.std.specs.List.{AllByRecursion, IsDistinct}
 use Rattle.std.specs.List.Sorted.{IsStrictlySortedBy}
 use Rattle.std.specs.Ordering.{ordering_reverse}
-use Rattle.std.specs.Cmp.{IsTotalOrder}
+use Rattle.std.specs.Cmp.{IsEquivalence, IsTotalOrder}
 use Rattle.std.proofs.lemmas.Cmp.{tied_itself}
 use Rattle.std.proofs.lemmas.Map.Lookups.{CmpEqualImpliesEq}
+use Rattle.std.proofs.lemmas.Map.Made.{length-le_from_is_member}
 use Rattle.pl_node.specs.ManagerViews.{in_order}
-use Rattle.pl_node.proofs.Among.{among_in_order, among_ordered, IsAmong, rising_in_order}
+use Rattle.pl_node.proofs.Among.{among_in_order, among_ordered, any_among, IsAmong, member_passes, rising_in_order}
 
 module _ {K : Type 0} where
   abbrev IsWithin : List K → List K → Type 0
@@ -58,3 +59,10 @@ module _ {K : Type 0} where
         same_rising (in_order R xs) (in_order R ys) (rising_in_order R o xs) (rising_in_order R o ys)
         (λ k h. among_in_order R exact k ys (f k (among_ordered R k xs h)))
         (λ k h. among_in_order R exact k xs (g k (among_ordered R k ys h)))
+
+    -- and items that differ are no more than there are in order of them and others
+    pub few_in_order : (same : K → K → Bool) → IsEquivalence same → (xs ys : List K) → IsDistinct same xs → IsWithin xs ys → length xs ≤ length (in_order R ys)
+    few_in_order same laws xs ys once within =
+        length-le_from_is_member laws xs (in_order R ys) once (λ q e.
+        let at = member_passes (same q) xs e in
+        any_among (same q) at.0 (in_order R ys) (among_in_order R exact at.0 ys (within at.0 at.1)) at.2)

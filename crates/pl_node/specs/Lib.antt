@@ -12,6 +12,7 @@ pub mod HostDuties
 pub mod ManagerViews
 pub mod AvoidLists
 pub mod AvoidRows
+pub mod Hidden
 pub mod Trees
 pub mod ManagerDuties
 pub mod ManagerFacts

@@ -1,7 +1,7 @@
 -- What the fabric manager knows: what each switch told last of each thing, who asked for the number of a pod, and the addresses that it
 -- learnt. A later word takes the place of an earlier one on the same thing, and all answers are functions of what is known then.
-use Rattle.std.specs.Prelude.{ℕ, ◌==◌, ◌&&◌, Bool, false, if◌then◌else◌, List, [], ◌∷◌, ◌++◌, length, map, not, Option, Some, None, is_none, unwrap_or}
-use Rattle.std.specs.List.{filter, filter_map, find, list_any}
+use Rattle.std.specs.Prelude.{ℕ, ◌+◌, ◌==◌, ◌&&◌, ◌||◌, Bool, false, if◌then◌else◌, List, [], ◌∷◌, ◌++◌, length, map, not, Option, Some, None, is_none, unwrap_or}
+use Rattle.std.specs.List.{filter, filter_map, find, list_any, range_with_len}
 use Rattle.std.specs.Map as table
 use Rattle.std.specs.Option.{option_and_then, option_map}
 use Rattle.std.specs.declared.cmp.Ordering.{Ordering}
@@ -13,6 +13,7 @@ use Rattle.pl_frame.specs.declared.address.Ip4.{Ip4}
 use Rattle.pl_frame.specs.declared.address.SwitchId.{SwitchId}
 use Rattle.pl_pmac.specs.declared.pmac.Pmac.{Pmac}
 use Rattle.pl_layouts.specs.declared.place.Place.{Place}
+use Rattle.pl_node.specs.declared.pod_given.PodGiven.{PodGiven}
 use Rattle.pl_layouts.specs.Equality.{same_mac, same_pmac, same_switch}
 use Rattle.pl_layouts.specs.Placement.{is_known, nowhere}
 use Rattle.pl_node.specs.HostViews.{ip_cmp}
@@ -61,8 +62,8 @@ pub record ManagerView : Type 0 where
   pub k : ℕ
   pub told : Told
   pub members : Members
-  -- the switches that asked for the number of a pod, each once, the newest first
-  pub askers : List SwitchId
+  -- the switches that asked for the number of a pod, with what they were given, each once, the newest first
+  pub pods : List PodGiven
   pub learnt : Learnt
 
 -- at first it knows nothing
@@ -71,7 +72,7 @@ booted_manager k = record {
   k = k;
   told = record { places = []; links = [] };
   members = [];
-  askers = [];
+  pods = [];
   learnt = record { addresses = []; owners = []; count = 0 };
 }
 
@@ -81,7 +82,7 @@ tellers told = map (λ p. p.0) told.places ++ map (λ l. l.0.0) told.links
 
 -- the same of all that switches tell
 abbrev pub speakers : ManagerView → List SwitchId
-speakers view = tellers view.told ++ (map (λ m. m.0.0) view.members ++ (view.askers ++ map (λ a. a.switch) view.learnt.addresses))
+speakers view = tellers view.told ++ (map (λ m. m.0.0) view.members ++ (map (λ g. g.switch) view.pods ++ map (λ a. a.switch) view.learnt.addresses))
 
 -- a switch was heard where something that it told is known; one that only asked a question is not among them
 abbrev pub is_heard : ManagerView → SwitchId → Bool
@@ -167,21 +168,23 @@ placed_edges told = filter_map (λ s. edge_at s (place_of told s)) (switches tol
 abbrev pub with_members : Members → ℕ → List SwitchId
 with_members members group = in_order id_cmp (map (λ m. m.0.0) (filter (λ m. m.0.1 == group && m.1) members))
 
--- a switch that asked for a pod, and the number that it was given
-pub record PodGiven : Type 0 where
-  pub switch : SwitchId
-  pub pod : ℕ
-
--- the pods are numbered 0, 1, 2 and so on in the order of asking; a switch that asks again has its number
-abbrev pub pods_given : List SwitchId → List PodGiven
-pods_given [] = []
-pods_given (s ∷ askers) =
-    if list_any (λ g. same_switch g.switch s) (pods_given askers) then pods_given askers
-    else record { switch = s; pod = length (pods_given askers) } ∷ pods_given askers
-
 -- the number that a switch was given
-abbrev pub pod_given : List SwitchId → SwitchId → Option ℕ
-pod_given askers s = option_map (λ g. g.pod) (find (λ g. same_switch g.switch s) (pods_given askers))
+abbrev pub pod_given : List PodGiven → SwitchId → Option ℕ
+pod_given pods s = option_map (λ g. g.pod) (find (λ g. same_switch g.switch s) pods)
+
+-- a number stands in a place that was told, or was given
+abbrev pub is_told_pod : Told → ℕ → Bool
+is_told_pod told n = list_any (λ p. is_known p.1.pod n) told.places
+
+abbrev pub is_given_pod : List PodGiven → ℕ → Bool
+is_given_pod pods n = list_any (λ g. g.pod == n) pods
+
+abbrev pub is_taken : Told → List PodGiven → ℕ → Bool
+is_taken told pods n = is_told_pod told n || is_given_pod pods n
+
+-- The smallest number that is not taken. There is one among these: no more are taken than places were told and numbers given.
+abbrev pub first_free : Told → List PodGiven → ℕ
+first_free told pods = unwrap_or (find (λ n. not (is_taken told pods n)) (range_with_len 0 (length told.places + length pods + 1))) 0
 
 -- a pseudo address, the actual address of its host, its registration number, and the switch that told it first
 pub record Registration : Type 0 where

@@ -1,78 +1,50 @@
--- The switches that asked for a pod, and the table of their pods.
-use Rattle.std.proofs.Common.{◌≡◌, ℕ, ◌+◌, ◌||◌, Bool, true, false, cond, List, [], ◌∷◌, ◌++◌, length, map, reverse, Some, None, is_some, refl, sym, ap, ◌∙◌, arith, eq-eqb}
-use Rattle.std.specs.List.{find, list_any}
+-- The switches that asked for a pod: the newest stands last in their list, and first where it is read from its end.
+use Rattle.std.proofs.Common.{◌≡◌, ◌≤◌, Bool, true, false, cond, List, [], ◌∷◌, ◌++◌, length, map, reverse, Some, None, refl, sym, ◌∙◌, arith}
+use Rattle.std.specs.List.{AllByRecursion, IsDistinct, find}
 use Rattle.std.specs.Option.{option_map}
-use Rattle.std.specs.Map.{keys_of, lookup}
-use Rattle.std.proofs.lemmas.List.{map-append, reverse-append}
-use Rattle.pl_lemmas.proofs.Exports.{is_some-option_map}
+use Rattle.std.specs.Cmp.{IsEquivalence}
+use Rattle.std.proofs.lemmas.Cmp.{nat_eq_equiv}
+use Rattle.std.proofs.lemmas.List.{length-map, reverse-append}
+use Rattle.std.proofs.lemmas.Option.{none-some}
 use Rattle.pl_frame.specs.declared.address.SwitchId.{SwitchId}
 use Rattle.pl_layouts.specs.Equality.{same_switch}
-use Rattle.pl_node.specs.ManagerViews.{PodGiven, pod_given, pods_given}
-use Rattle.pl_manager_rule.specs.ManagerRule.{with_asker}
-use Rattle.pl_registry.specs.Askers.{FindPods}
+use Rattle.pl_node.specs.declared.pod_given.PodGiven.{PodGiven}
+use Rattle.pl_node.specs.ManagerViews.{id_cmp, pod_given}
+use Rattle.pl_node.proofs.Exports.{few_in_order, id_exact, id_total}
+use Rattle.pl_registry.specs.Askers.{AreOnce, pod_holders}
 
--- one that is found is among them, and the other way round
-pub any_found : {X : Type 0} (test : X → Bool) (xs : List X) → list_any test xs ≡ is_some (find test xs)
-any_found test [] = refl
-any_found test (x ∷ xs) = by (any_found test xs) (test x)
+pub newest_first : {X : Type 0} (xs : List X) (x : X) → reverse (xs ++ x ∷ []) ≡ x ∷ reverse xs
+newest_first xs x = reverse-append xs (x ∷ [])
+
+switch_laws : IsEquivalence same_switch
+switch_laws = record {
+  refl = λ a. nat_eq_equiv.refl a.0;
+  symm = λ a b. nat_eq_equiv.symm a.0 b.0;
+  congr = λ a b c. nat_eq_equiv.congr a.0 b.0 c.0;
+}
+
+pub few_holders : (pods : List PodGiven) → AreOnce pods → length pods ≤ length (pod_holders pods)
+few_holders pods once =
+    let holders : List SwitchId = map (λ (g : PodGiven). g.switch) pods in
+    let few = few_in_order id_cmp id_total id_exact same_switch switch_laws holders holders once (λ s h. h) in
+    let many = length-map pods (λ (g : PodGiven). g.switch) in
+    omega (arith, few, many)
+
+-- one that has none is none of those that have one
+apart : (pods : List PodGiven) (s : SwitchId) → pod_given pods s ≡ None → AllByRecursion (λ t. same_switch s t ≡ false) (map (λ g. g.switch) pods)
+apart [] s none = tt
+apart (g ∷ pods) s none = by (same_switch g.switch s) refl (λ n. apart pods s n) none
   where
-    by : list_any test xs ≡ is_some (find test xs) → (b : Bool) → (b || list_any test xs) ≡ is_some (cond b (Some x) (find test xs))
-    by rest true = refl
-    by rest false = rest
+    by : (b : Bool) → same_switch g.switch s ≡ b → (pod_given pods s ≡ None → AllByRecursion (λ t. same_switch s t ≡ false) (map (λ h. h.switch) pods)) →
+        option_map (λ h. h.pod) (cond b (Some g) (find (λ h. same_switch h.switch s) pods)) ≡ None →
+        AllByRecursion (λ t. same_switch s t ≡ false) (map (λ h. h.switch) (g ∷ pods))
+    by true is rest n = absurd (none-some g.pod (sym n))
+    by false is rest n = (switch_laws.symm s g.switch ∙ is, rest n)
 
--- the last item of a list is the first one of the list from its end
-pub last_first : {X Y : Type 0} (f : X → Y) (xs : List X) (x : X) → reverse (map f (xs ++ x ∷ [])) ≡ f x ∷ reverse (map f xs)
-last_first f xs x = ap reverse (map-append f xs (x ∷ [])) ∙ reverse-append (map f xs) (f x ∷ [])
+pub none_once : AreOnce []
+unfolding IsDistinct
+none_once = tt
 
--- a switch has a pod where the table has one for it
-asked_where_given : (askers : List SwitchId) (pods : List (SwitchId × ℕ)) (s : SwitchId) → FindPods askers pods →
-    list_any (λ g. same_switch g.switch s) (pods_given askers) ≡ is_some (lookup (same_switch s) pods)
-asked_where_given askers pods s given =
-    any_found (λ g. same_switch g.switch s) (pods_given askers)
-    ∙ sym (is_some-option_map (λ g. g.pod) (find (λ g. same_switch g.switch s) (pods_given askers))) ∙ ap is_some (given.pod s)
-
--- one that asks again
-pub asks_again : (askers : List SwitchId) (pods : List (SwitchId × ℕ)) (s : SwitchId) (pod : ℕ) → FindPods askers pods →
-    lookup (same_switch s) pods ≡ Some pod → with_asker askers s ≡ askers
-asks_again askers pods s pod given found =
-    ap (λ b. cond b askers (s ∷ askers)) (asked_where_given askers pods s given ∙ ap is_some found)
-
--- one that asks for the first time
-module _ (askers : List SwitchId) (before after : List (SwitchId × ℕ)) (s : SwitchId) (given : FindPods askers before)
-    (none : lookup (same_switch s) before ≡ None) where
-  not_asked : list_any (λ g. same_switch g.switch s) (pods_given askers) ≡ false
-  not_asked = asked_where_given askers before s given ∙ ap is_some none
-
-  pub asks_first : with_asker askers s ≡ s ∷ askers
-  asks_first = ap (λ b. cond b askers (s ∷ askers)) not_asked
-
-  new : PodGiven
-  new = record { switch = s; pod = length (pods_given askers) }
-
-  one_given : pods_given (s ∷ askers) ≡ record { switch = s; pod = length (pods_given askers) } ∷ pods_given askers
-  one_given = ap (λ b. cond b (pods_given askers) (record { switch = s; pod = length (pods_given askers) } ∷ pods_given askers)) not_asked
-
-  pub is_given : ((t : SwitchId) → lookup (same_switch t) after ≡ cond (same_switch s t) (Some (length before)) (lookup (same_switch t) before)) →
-      length after ≡ length before + 1 → FindPods (s ∷ askers) after
-  is_given says longer = record {
-    pod = λ t.
-        ap (λ gs. option_map (λ (g : PodGiven). g.pod) (find (λ g. same_switch g.switch t) gs)) one_given
-        ∙ pod_of t (same_switch s t)
-        ∙ (λ i. cond (same_switch s t) (Some (given.many i)) (given.pod t i)) ∙ sym (says t);
-    many = ap length one_given ∙ omega (arith, given.many, longer);
-  }
-    where
-      pod_of : (t : SwitchId) (b : Bool) → option_map (λ (g : PodGiven). g.pod) (cond b (Some (record { switch = s; pod = length (pods_given askers) })) (find (λ g. same_switch g.switch t) (pods_given askers)))
-          ≡ cond b (Some (length (pods_given askers))) (pod_given askers t)
-      pod_of t true = refl
-      pod_of t false = refl
-
-  pub first_pod : ((t : SwitchId) → lookup (same_switch t) after ≡ cond (same_switch s t) (Some (length before)) (lookup (same_switch t) before)) →
-      length after ≡ length before + 1 → pod_given (s ∷ askers) s ≡ Some (length before)
-  first_pod says longer =
-      (is_given says longer).pod s ∙ says s ∙ ap (λ b. cond b (Some (length before)) (lookup (same_switch s) before)) (eq-eqb s.0 s.0 refl)
-
--- the switches with the newest first, once one more has a pod
-pub newest_asker : (before after : List (SwitchId × ℕ)) (s : SwitchId) (pod : ℕ) → after ≡ before ++ (s, pod) ∷ [] →
-    reverse (keys_of after) ≡ s ∷ reverse (keys_of before)
-newest_asker before after s pod entries = ap (λ es. reverse (keys_of es)) entries ∙ last_first (λ (e : SwitchId × ℕ). e.0) before (s, pod)
+pub once_more : (pods : List PodGiven) (new : PodGiven) → pod_given pods new.switch ≡ None → AreOnce pods → AreOnce (new ∷ pods)
+unfolding IsDistinct
+once_more pods new none once = (apart pods new.switch none, once)

@@ -4,7 +4,7 @@ use Rattle.std.specs.List.{AllByRecursion, IsDistinct, find, list_any}
 use Rattle.std.specs.Option.{option_and_then, option_map, option_or}
 use Rattle.std.specs.Map.{keys_of, lookup, remove_entry, values_of}
 use Rattle.std.proofs.lemmas.Bool.{and_parts, false≢true, or_right}
-use Rattle.std.proofs.lemmas.List.{append-nil, length-map, length-reverse, reverse-append}
+use Rattle.std.proofs.lemmas.List.{append-nil, length-map, length-reverse, map-append, reverse-append}
 use Rattle.std.proofs.lemmas.Option.{none-some, same_Some}
 use Rattle.std.proofs.lemmas.List.Sorted.{IsPermutation-reverse}
 use Rattle.std.proofs.lemmas.Map.Keys.{IsDistinct-IsPermutation}
@@ -26,7 +26,19 @@ use Rattle.pl_registry.specs.declared.addresses.Registered.{Registered}
 use Rattle.pl_registry.specs.declared.addresses.Told.{Told}
 use Rattle.pl_registry.specs.Addresses.{FindAddresses, IsLedFrom, is_known_trapped_to, leading, learnt_at, learnt_of, newest_first, recall_of, registration_of, told_at, was_newest_of, with_address_as}
 use Rattle.pl_registry.proofs.Keys.{keys_are}
-use Rattle.pl_registry.proofs.Asking.{any_found, last_first}
+
+-- one that is found is among them, and the other way round
+any_found : {X : Type 0} (test : X → Bool) (xs : List X) → list_any test xs ≡ is_some (find test xs)
+any_found test [] = refl
+any_found test (x ∷ xs) = by (any_found test xs) (test x)
+  where
+    by : list_any test xs ≡ is_some (find test xs) → (b : Bool) → (b || list_any test xs) ≡ is_some (cond b (Some x) (find test xs))
+    by rest true = refl
+    by rest false = rest
+
+-- the last item of a list is the first one of the list from its end
+last_first : {X Y : Type 0} (f : X → Y) (xs : List X) (x : X) → reverse (map f (xs ++ x ∷ [])) ≡ f x ∷ reverse (map f xs)
+last_first f xs x = ap reverse (map-append f xs (x ∷ [])) ∙ reverse-append (map f xs) (f x ∷ [])
 
 abbrev pub Table : Type 0
 Table = List (Pmac × Known)

@@ -3,5 +3,5 @@ pub mod Alike
 pub mod Telling
 pub mod Finding
 pub mod Counting
-pub mod Asking
 pub mod Releasing
+pub mod Asking

@@ -1,11 +1,15 @@
--- What finds the pods that were given.
-use Rattle.std.specs.Prelude.{◌≡◌, ℕ, List, length}
-use Rattle.std.specs.Map.{lookup}
+-- The switches that have the number of a pod.
+use Rattle.std.specs.Prelude.{List, map}
+use Rattle.std.specs.List.{IsDistinct}
 use Rattle.pl_frame.specs.declared.address.SwitchId.{SwitchId}
 use Rattle.pl_layouts.specs.Equality.{same_switch}
-use Rattle.pl_node.specs.ManagerViews.{pod_given, pods_given}
+use Rattle.pl_node.specs.declared.pod_given.PodGiven.{PodGiven}
+use Rattle.pl_node.specs.ManagerViews.{id_cmp, in_order}
 
--- the table finds the pod of each switch that asked, and there are as many as were given
-pub record FindPods (askers : List SwitchId) (pods : List (SwitchId × ℕ)) : Type 0 where
-  pub pod : (s : SwitchId) → pod_given askers s ≡ lookup (same_switch s) pods
-  pub many : length (pods_given askers) ≡ length pods
+-- each switch was given one number
+abbrev pub AreOnce : List PodGiven → Type 0
+AreOnce pods = IsDistinct same_switch (map (λ g. g.switch) pods)
+
+-- those that were given one, by rising id
+abbrev pub pod_holders : List PodGiven → List SwitchId
+pod_holders pods = in_order id_cmp (map (λ g. g.switch) pods)

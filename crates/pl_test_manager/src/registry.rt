@@ -78,15 +78,32 @@ impl Bench {
 
     // SWITCH
     fn pod(&mut self, alloc: Global, rest: &str, out: &mut String) -> Result<(), Memory> {
-        match id(rest) {
-            Some(switch) if self.askers.len() < 65536 => {
-                let pod = self.askers.ask(switch)?;
-                let line = format!(in alloc; "pod {pod}")?;
-                say(out, line.as_str())
+        let Some(switch) = id(rest) else {
+            return say(out, "not understood");
+        };
+        let pod = match self.askers.pod_of(switch) {
+            Some(pod) => pod,
+            None => {
+                let Some(pod) = free_pod(&self.askers) else {
+                    return say(out, "none");
+                };
+                self.askers.give(switch, pod)?;
+                pod
             }
-            _ => say(out, "not understood"),
+        };
+        let line = format!(in alloc; "pod {pod}")?;
+        say(out, line.as_str())
+    }
+}
+
+// The smallest number that was given to no switch.
+fn free_pod(askers: &Askers) -> Option<u16> {
+    for pod in 0..u16::MAX {
+        if !askers.has_given(pod) {
+            return Some(pod);
         }
     }
+    None
 }
 
 fn say_learning(alloc: Global, learning: Option<Learning>, out: &mut String) -> Result<(), Memory> {

@@ -1,10 +1,15 @@
+use Rattle.std.proofs.Common.{◌<◌, ◌+◌, length, subst, sym}
+use Rattle.pl_node.specs.ManagerViews.{Told, switches}
+use Rattle.pl_registry.specs.Askers.{pod_holders}
 use Rattle.pl_manager.specs.Manager.{manager_view}
 use Rattle.pl_manager.proofs.Heard.{address_told, aged_told, link_told, members_told, place_told, pod_told, question_told}
-use Rattle.pl_manager.proofs.Pods.{few_pods}
+use Rattle.pl_manager.proofs.Pods.{few_heard}
 use Rattle.pl_manager.proofs.manager_logic.ManagerManagerLogic.hears.Goals as goal
 
 pub give_pod-requires : goal.give_pod-requires
-give_pod-requires c = few_pods (manager_view c.args.self.now) c.args.switch c.args.self.now.size c.requires
+give_pod-requires c =
+    subst (λ (told : Told). length (switches told) + length (pod_holders c.args.self.now.askers) < 65535) (sym c.reports.ensures)
+    (few_heard (manager_view c.args.self.now) c.args.switch c.args.self.now.size c.requires)
 
 pub returns-in-Place-clause-step : goal.returns-in-Place-clause-step
 returns-in-Place-clause-step c =
@@ -19,7 +24,7 @@ returns-in-Link-clause-step c =
 pub returns-in-PodWanted-clause-step : goal.returns-in-PodWanted-clause-step
 returns-in-PodWanted-clause-step c =
     pod_told c.give_pod.result (manager_view c.args.self.now) c.args.switch c.args.says.now c.args.out.now c.give_pod.new.out
-    c.give_pod.new.askers c.in-PodWanted.is c.give_pod.ensures.askers c.give_pod.ensures.acts
+    c.reports.result.now c.give_pod.new.askers c.in-PodWanted.is c.reports.ensures c.give_pod.ensures.askers c.give_pod.ensures.acts
 
 pub returns-in-Learned-clause-step : goal.returns-in-Learned-clause-step
 returns-in-Learned-clause-step c =

@@ -1,6 +1,6 @@
 -- Addresses that are freed, and granted again: small journals with one entry that may follow, or may not.
 use Rattle.std.specs.Prelude.{List, [], ◌∷◌, ◌++◌, refl}
-use Rattle.std.proofs.Common.{ap, sym, inl, inr}
+use Rattle.std.proofs.Common.{ap, sym, inl, inr, lit<}
 use Rattle.std.proofs.lemmas.Bool.{false≢true}
 use Rattle.hex.specs.Hex.{decode_pairs}
 use Rattle.pl_journal.specs.declared.entry.Entry.{Entry}
@@ -17,7 +17,7 @@ use Rattle.pl_examples.specs.Endings.{last_one}
 a_freed_address_is_granted_again : Run two_pods d_moved → Run two_pods (d_moved ++ Freed pmac_d ∷ Moved a e10 0 ∷ Granted pmac_d a e10 0 ∷ Registered pmac_d 4 ∷ [])
 unfolding decode_pairs
 a_freed_address_is_granted_again run =
-    run ▸ refl ▸ (refl, refl) ▸ record { fresh = refl; port = refl; stood = refl; edge = refl } ▸ (refl, refl, refl)
+    run ▸ refl ▸ (refl, refl) ▸ record { fresh = refl; port = refl; stood = refl; edge = refl } ▸ (refl, lit< tt)
 
 no_address_is_freed_twice : ¬ Run two_pods (d_moved ++ Freed pmac_d ∷ Freed pmac_d ∷ [])
 unfolding decode_pairs

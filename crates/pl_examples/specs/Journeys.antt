@@ -1,18 +1,19 @@
 -- Journals of a host that moves to another pod, and of a group: what is a run of the lossy switch, and what is none.
-use Rattle.std.specs.Prelude.{ℕ, ◌==◌, List, [], ◌∷◌, ◌++◌, codes, replicate, take, drop, is_none, refl}
+use Rattle.std.specs.Prelude.{◌≡◌, ℕ, ◌==◌, List, [], ◌∷◌, ◌++◌, codes, replicate, take, drop, reverse, Some, refl}
 use Rattle.std.proofs.Common.{ap, sym, inl, inr, lit<, lt→ltb}
 use Rattle.std.proofs.lemmas.Bool.{false≢true}
 use Rattle.hex.specs.Hex.{decode_pairs}
 use Rattle.pl_frame.specs.declared.address.Mac.{Mac}
 use Rattle.pl_pmac.specs.declared.pmac.Pmac.{Pmac}
+use Rattle.pl_pmac.specs.Pmac.{pmac_number}
 use Rattle.pl_wiring.specs.declared.label.SwitchNo.{SwitchNo}
 use Rattle.pl_wiring.specs.declared.host.HostNo.{HostNo}
 use Rattle.pl_wiring.specs.Plan.{Plan}
 use Rattle.pl_journal.specs.declared.entry.Entry.{Entry}
-use Rattle.pl_journal.specs.declared.entry.Entry.TheVariants.{Line, Sent, Crossed, Redirected, Copied, Arrived, Taken, Dropped, Granted, Registered, LinkDown, LinkUp, Moved}
+use Rattle.pl_journal.specs.declared.entry.Entry.TheVariants.{Line, Sent, Crossed, Redirected, Copied, Arrived, Taken, Dropped, Granted, Registered, LinkDown, LinkUp, Moved, Restarted}
 use Rattle.pl_journal.specs.declared.cause.Cause.TheVariants.{NoMember, HostGone}
 use Rattle.pl_examples.specs.ExampleFrames.{bytes_of, mac_a, pmac_a, a_starts, a_joins}
-use Rattle.pl_journal.specs.Places.{at_port, is_at}
+use Rattle.pl_journal.specs.Places.{at_port, is_at, number}
 use Rattle.pl_journal.specs.Flights.{is_frame}
 use Rattle.pl_examples.specs.FirstPath.{◌▸◌, canonical, host_at, two_hosts, both_started, then, switch, a, b, e00}
 use Rattle.pl_journal.specs.Lossy.{Run, GoodTrail}
@@ -94,10 +95,10 @@ a_moved_host_is_a_run =
     tt ▸ tt ▸ refl ▸ refl
     ▸ refl ▸ record { fresh = refl; port = refl; stood = refl; edge = refl } ▸ (refl, record { of_host = refl; alone = refl; takeable = refl })
     ▸ refl ▸ record { fresh = refl; port = refl; stood = refl; edge = refl } ▸ (refl, record { of_host = refl; alone = refl; takeable = refl })
-    ▸ (refl, refl, refl) ▸ (refl, refl, refl)
+    ▸ (refl, lit< tt) ▸ (refl, lit< tt)
     ▸ tt ▸ (refl, refl) ▸ refl
     ▸ refl ▸ record { fresh = refl; port = refl; stood = refl; edge = refl } ▸ (refl, record { of_host = refl; alone = refl; takeable = refl })
-    ▸ (refl, refl, refl)
+    ▸ (refl, lit< tt)
     ▸ tt ▸ refl ▸ refl ▸ refl ▸ refl ▸ refl ▸ refl
     ▸ (refl, record { present = refl; live = (refl, refl); same_host = refl; newer = lit< tt; turns = refl })
     ▸ refl ▸ refl ▸ refl ▸ refl ▸ refl
@@ -142,9 +143,31 @@ no_other_switch_grants_it : ¬ Run two_pods (then d_moved (Granted (record pmac_
 unfolding decode_pairs
 no_other_switch_grants_it run = false≢true run.1.edge
 
-no_address_is_numbered_twice : ¬ Run two_pods (then d_moved (Registered pmac_moved 4))
+-- 3 is the highest number so far: an address may be given any larger one, in the place of its own
+an_address_is_numbered_anew : Run two_pods d_moved → Run two_pods (then d_moved (Registered pmac_a 4294967297))
 unfolding decode_pairs
-no_address_is_numbered_twice run = false≢true (ap is_none run.1.1)
+an_address_is_numbered_anew run = run ▸ (refl, lit< tt)
+
+no_number_is_given_twice : ¬ Run two_pods (then d_moved (Registered pmac_a 3))
+unfolding decode_pairs
+no_number_is_given_twice run = lt→ltb 3 3 run.1.1
+
+-- the last number of an address counts
+its_number_is_the_last_one : number (reverse (d_moved ++ Registered pmac_a 4 ∷ Registered pmac_a 7 ∷ [])) (pmac_number pmac_a) ≡ Some 7
+its_number_is_the_last_one = refl
+
+-- the manager begins anew, and again; the addresses that were numbered before keep what the journal says of them
+the_manager_begins_anew : Run two_pods d_moved → Run two_pods (then (then d_moved (Restarted 1)) (Restarted 2))
+unfolding decode_pairs
+the_manager_begins_anew run = run ▸ refl ▸ refl
+
+no_restart_counts_for_nothing : ¬ Run two_pods (then (then d_moved (Restarted 1)) (Restarted 1))
+unfolding decode_pairs
+no_restart_counts_for_nothing run = false≢true (ap (λ n. n == 2) run.1)
+
+no_restart_begins_the_numbers_again : ¬ Run two_pods (then (then d_moved (Restarted 1)) (Registered pmac_a 1))
+unfolding decode_pairs
+no_restart_begins_the_numbers_again run = lt→ltb 3 1 run.1.1
 
 -- from e0.0 no link leads to c0.0
 no_link : ¬ GoodTrail two_pods (d_moved ++ Sent 4 a a_to_d ∷ Crossed 4 e00 ∷ Crossed 4 c00 ∷ [])

@@ -13,6 +13,7 @@ pub mod AgingExamples
 pub mod DropExamples
 pub mod DiscoveryExamples
 pub mod HostExamples
+pub mod GatheringExamples
 pub mod ManagerExamples
 pub mod WorldExamples
 pub mod PendingExamples

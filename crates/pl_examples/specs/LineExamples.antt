@@ -9,7 +9,7 @@ use Rattle.pl_wiring.specs.declared.host.Host.{Host}
 use Rattle.pl_wiring.specs.Plan.{Plan}
 use Rattle.pl_journal.specs.declared.cause.Cause.TheVariants.{NoNextHop}
 use Rattle.pl_journal.specs.declared.cause.Skip.TheVariants.{HoldFull}
-use Rattle.pl_journal.specs.declared.entry.Entry.TheVariants.{Line, Sent, Skipped, Made, Crossed, Redirected, Copied, Arrived, Taken, Dropped, Granted, Registered, Freed, Placed, LinkDown, LinkUp, Moved, Settled, Unsettled}
+use Rattle.pl_journal.specs.declared.entry.Entry.TheVariants.{Line, Sent, Skipped, Made, Crossed, Redirected, Copied, Arrived, Taken, Dropped, Granted, Registered, Freed, Placed, LinkDown, LinkUp, Moved, Restarted, Settled, Unsettled}
 use Rattle.pl_journal.specs.Text.{journal_text}
 
 abbrev named : List ℕ → ℕ → Host
@@ -57,8 +57,8 @@ frames_lines = refl
 
 fabric_lines : journal_text two_hosts (
     Granted (address 0 1) a edge 0 ∷ Registered (address 1 1) 18446744073709551615 ∷ Freed (address 1 1) ∷ Placed edge (record { level = Some 0; position = None; pod = Some 3 })
-    ∷ LinkDown aggregation core ∷ LinkUp edge aggregation ∷ Moved b edge 1 ∷ Settled 1 ∷ Unsettled 10 ∷ [])
+    ∷ LinkDown aggregation core ∷ LinkUp edge aggregation ∷ Moved b edge 1 ∷ Restarted 1 ∷ Settled 1 ∷ Unsettled 10 ∷ [])
     ≡ codes "granted 00:00:00:00:00:01 a e0.0 0\nregistered 00:00:00:01:00:01 18446744073709551615\nfreed 00:00:00:01:00:01\nplaced e0.0 0 - 3\n"
-    ++ codes "linkdown a0.0 c0.0\nlinkup e0.0 a0.0\nmoved b e0.0 1\nsettled 1\nunsettled 10\n"
+    ++ codes "linkdown a0.0 c0.0\nlinkup e0.0 a0.0\nmoved b e0.0 1\nrestarted 1\nsettled 1\nunsettled 10\n"
 unfolding digits
 fabric_lines = refl

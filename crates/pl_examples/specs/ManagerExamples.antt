@@ -15,7 +15,8 @@ use Rattle.pl_node.specs.declared.messages.ToSwitch.TheVariants as say
 use Rattle.pl_node.specs.declared.messages.TreePart.{TreePart}
 use Rattle.pl_layouts.specs.declared.place.Place.{Place}
 use Rattle.pl_layouts.specs.Memberships.{flood}
-use Rattle.pl_node.specs.ManagerViews.{ManagerView, Members, PodGiven, Told, booted_manager, members_cmp, pods_given, switches}
+use Rattle.pl_node.specs.declared.pod_given.PodGiven.{PodGiven}
+use Rattle.pl_node.specs.ManagerViews.{ManagerView, Members, Told, booted_manager, members_cmp, switches}
 use Rattle.pl_node.specs.AvoidLists.{avoid_list}
 use Rattle.pl_node.specs.Trees.{core_of, tree_part}
 use Rattle.pl_manager_rule.specs.Histories.{Word, known}
@@ -162,7 +163,7 @@ three_askers = asks (asks (asks (asks (booted_manager 4) 5) 1) 3) 5
 abbrev given : ℕ → ℕ → PodGiven
 given n pod = record { switch = the_switch n; pod = pod }
 
-pods_go_by_the_order_of_asking : pods_given three_askers.askers ≡ given 3 2 ∷ given 1 1 ∷ given 5 0 ∷ []
+pods_go_by_the_order_of_asking : three_askers.pods ≡ given 3 2 ∷ given 1 1 ∷ given 5 0 ∷ []
 unfolding manager_hears
 pods_go_by_the_order_of_asking = refl
 
@@ -173,6 +174,19 @@ the_same_pod_again = refl
 the_next_pod : (manager_hears three_askers (the_switch 7) tell.PodWanted).acts ≡ Say (the_switch 7) (say.Pod 3) ∷ []
 unfolding manager_hears avoid_list tree_part core_of
 the_next_pod = refl
+
+-- a number that stands in a place told is given to nobody: switches 9 and 12 know pods 0 and 1 already, by a manager that went
+abbrev two_pods_told : ManagerView
+two_pods_told = view_with (record { places = (the_switch 9, place_in_tree 9) ∷ (the_switch 12, place_in_tree 12) ∷ []; links = [] })
+
+the_pods_told_are_passed_over : (asks (asks two_pods_told 5) 7).pods ≡ given 7 3 ∷ given 5 2 ∷ []
+unfolding manager_hears
+the_pods_told_are_passed_over = refl
+
+-- the smallest number that is free, wherever the gap is
+the_gap_is_filled : (asks (view_with (record { places = (the_switch 12, place_in_tree 12) ∷ []; links = [] })) 5).pods ≡ given 5 0 ∷ []
+unfolding manager_hears
+the_gap_is_filled = refl
 
 -- ---- what was told last
 -- a switch by its number, and what it told

@@ -1,7 +1,7 @@
 -- What other crates may name of these proofs.
 pub use Rattle.pl_law_addresses.proofs.AddressesInRuns.{boots_in_order, granted_at_most_once, granted_for_nothing, mark_quiet, one_step, run_in_order, since_then, step_in_order}
 pub use Rattle.pl_law_addresses.proofs.Asides.{changes_silent, floods_aside, forgets_members_aside, makes_aside, probes_aside, proposal_aside, switch_frame_aside, takes_in_aside, tells_aside}
-pub use Rattle.pl_law_addresses.proofs.Consequences.{granted_once, registered_is_granted, served_is_registered, told_in_use, trap_leads}
+pub use Rattle.pl_law_addresses.proofs.Consequences.{granted_once, registered_is_granted, served_is_registered, standing_leads, told_in_use}
 pub use Rattle.pl_law_addresses.proofs.EventsKeepAddresses.{Facts, facts_of}
 pub use Rattle.pl_law_addresses.proofs.FreeLists.{held_free, IsNextVmid, next_granted}
 pub use Rattle.pl_law_addresses.proofs.GrantsByNumber.{first_passes, granted_here, granted_within, IsInUse, known_same, local_here, local_settled, none_passes, none_used, now_at, number_one_more, number_past, number_push_other, number_push_same, number_set_other, number_set_same, number_within, others_at, used_is}

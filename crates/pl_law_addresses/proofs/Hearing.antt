@@ -260,7 +260,7 @@ module _ (plan : Plan) (is_plan : IsPlan plan) (words : List Word) (switches : L
       (all_plain plan before after [] tt)
   heard_addressed tell.PodWanted head =
       let before = known plan.k words in let after = view_after before id tell.PodWanted in
-      let reply = Say id (say.Pod (unwrap_or (pod_given after.askers id) 0)) ∷ [] in
+      let reply = Say id (say.Pod (unwrap_or (pod_given after.pods id) 0)) ∷ [] in
       other_heard plan is_plan words switches up down a many apart s id named v found items within tell.PodWanted head (λ y. refl) (λ y. refl) after (reply ++ avoid_acts before.told after.told ++ tree_acts before after) refl refl
       (all_plain plan before after reply (λ t is. tt, tt))
   heard_addressed (tell.Query asker asker_ip ip) head =

@@ -1,19 +1,18 @@
 -- In a settled fabric links, views and the manager's records agree.
-use Rattle.std.proofs.Common.{◌≡◌, ℕ, zero, ◌+◌, ◌<◌, true, get_or, Option, Some, slice_get, sym, ap, ◌∙◌, subst, inl, inr, arith}
+use Rattle.std.proofs.Common.{◌≡◌, ℕ, zero, ◌<◌, true, Option, Some, slice_get, sym, ap, ◌∙◌, subst, inl, inr, arith}
 use Rattle.std.specs.List.{AllByRecursion}
-use Rattle.std.proofs.lemmas.Bool.{cases_eq, cases_lt}
+use Rattle.std.proofs.lemmas.Bool.{cases_eq}
 use Rattle.std.proofs.lemmas.List.{get_or_default}
 use Rattle.std.proofs.lemmas.Option.{same_Some, slice_get-get_or}
 use Rattle.pl_lemmas.proofs.Exports.{all_at, all_contained}
 use Rattle.pl_frame.specs.declared.address.SwitchId.{SwitchId}
 use Rattle.pl_layouts.specs.Equality.{same_switch}
 use Rattle.pl_layouts.proofs.Exports.{switch_itself}
-use Rattle.pl_wiring.specs.declared.label.Label.TheVariants.{Edge}
 use Rattle.pl_wiring.specs.declared.link.Peer.{Peer}
-use Rattle.pl_wiring.specs.Labels.{edge_count, label_of, switch_count}
+use Rattle.pl_wiring.specs.Labels.{label_of, switch_count}
 use Rattle.pl_wiring.specs.LiveLinks.{is_live, is_live_at}
 use Rattle.pl_wiring.specs.Plan.{IsPlan}
-use Rattle.pl_wiring.proofs.Exports.{at_contained, label_of-aggregation, label_of-core, peer_is_switch}
+use Rattle.pl_wiring.proofs.Exports.{at_contained, peer_is_switch}
 use Rattle.pl_node.specs.declared.messages.ToManager.TheVariants as tell
 use Rattle.pl_node.specs.ManagerViews.{is_told_usable, place_of, speakers, tellers}
 use Rattle.pl_node.specs.PortRecords.{heard_id, heard_place}
@@ -29,7 +28,7 @@ use Rattle.pl_law_places.specs.Known.{pod_of}
 use Rattle.pl_law_places.proofs.Exports.{one_number}
 use Rattle.pl_law_votes.proofs.Exports.{fixed_are_apart, ids_differ}
 use Rattle.pl_law_pods.specs.Pods.{id_of}
-use Rattle.pl_law_pods.proofs.Exports.{known_are_given, numbers_differ}
+use Rattle.pl_law_pods.proofs.Exports.{edge_there, known_are_given}
 use Rattle.pl_law_invariant.specs.ControlInvariant.{ControlInvariant}
 use Rattle.pl_law_invariant.proofs.Exports.{grounded}
 use Rattle.pl_law_records.specs.Words.{IsNoReport}
@@ -37,16 +36,6 @@ use Rattle.pl_law_records.proofs.Exports.{neighbours_at_rest, question_reports_n
 use Rattle.pl_law_arrival.specs.Orderly.{IsOrderlyWorld}
 use Rattle.pl_law_arrival.proofs.Calm.{Calm}
 use Rattle.pl_law_arrival.proofs.Ready.{Ready, net}
-
--- an edge switch by its label is there
-edge_there : (k z pod i : ℕ) → label_of k z ≡ Edge pod i → z < switch_count k
-edge_there k z pod i edge = elim (cases_lt z (edge_count k)) [
-  | inl low ↦ omega (arith, low)
-  | inr high ↦ elim (cases_lt z (edge_count k + edge_count k)) [
-    | inl low ↦ let other = label_of-aggregation k z high low in absurd (cc (edge, other))
-    | inr higher ↦ let other = label_of-core k z higher in absurd (cc (edge, other))
-  ]
-]
 
 module _ (w : WorldView) (order : IsOrderlyWorld w) (is : IsSettled w) where
   abbrev kept : ControlInvariant w
@@ -113,7 +102,7 @@ module _ (w : WorldView) (order : IsOrderlyWorld w) (is : IsSettled w) where
       let f = control_plane w in
       let a = known_are_given f kept.placed kept.given s x here in
       let b = known_are_given f kept.placed kept.given t x also in
-      let same = numbers_differ f.manager.askers (id_of w.plan a.0) (id_of w.plan b.0) x a.2 b.2 in
+      let same = kept.given.gives.apart (id_of w.plan a.0) (id_of w.plan b.0) x a.2 b.2 in
       let zero : a.0 ≡ b.0 = elim (cases_eq a.0 b.0) [
         | inl is ↦ is
         | inr differ ↦ absurd (ids_differ w.plan plan_is a.0 b.0 (edge_there w.plan.k a.0 a.1.pod a.1.i a.1.edge) (edge_there w.plan.k b.0 b.1.pod b.1.i b.1.edge) differ same)

@@ -5,7 +5,7 @@ use Rattle.std.proofs.lemmas.Bool.{cases_Bool, cond-false, cond-true, eq-eqb, eq
 use Rattle.std.proofs.lemmas.Option.{slice_get-get_or}
 use Rattle.pl_wiring.specs.Labels.{label_of}
 use Rattle.pl_journal.specs.declared.entry.Entry.{Entry}
-use Rattle.pl_journal.specs.declared.entry.Entry.TheVariants.{Arrived, Copied, Crossed, Dropped, Freed, Granted, Line, LinkDown, LinkUp, Made, Moved, Placed, Redirected, Registered, Sent, Settled, Skipped, Taken, Unsettled}
+use Rattle.pl_journal.specs.declared.entry.Entry.TheVariants.{Arrived, Copied, Crossed, Dropped, Freed, Granted, Line, LinkDown, LinkUp, Made, Moved, Placed, Redirected, Registered, Restarted, Sent, Settled, Skipped, Taken, Unsettled}
 use Rattle.pl_journal.specs.Flights.{before_copy, root, trail}
 use Rattle.pl_journal.specs.Places.{EdgePort, at_port, edge_port_of, is_at}
 use Rattle.pl_journal.proofs.Exports.{same_edge_port_itself}
@@ -79,6 +79,7 @@ got_within plan (Freed p ∷ past) r h there at = got_within plan past r h there
 got_within plan (Placed s place ∷ past) r h there at = got_within plan past r h there at
 got_within plan (LinkDown a b ∷ past) r h there at = got_within plan past r h there at
 got_within plan (LinkUp a b ∷ past) r h there at = got_within plan past r h there at
+got_within plan (Restarted n ∷ past) r h there at = got_within plan past r h there at
 got_within plan (Settled n ∷ past) r h there at = got_within plan past r h there at
 got_within plan (Unsettled n ∷ past) r h there at = got_within plan past r h there at
 
@@ -140,6 +141,7 @@ trail_within plan (Placed s place ∷ past) id x = trail_within plan past id x
 trail_within plan (LinkDown a b ∷ past) id x = trail_within plan past id x
 trail_within plan (LinkUp a b ∷ past) id x = trail_within plan past id x
 trail_within plan (Moved h e p ∷ past) id x = trail_within plan past id x
+trail_within plan (Restarted n ∷ past) id x = trail_within plan past id x
 trail_within plan (Settled n ∷ past) id x = trail_within plan past id x
 trail_within plan (Unsettled n ∷ past) id x = trail_within plan past id x
 

@@ -21,7 +21,7 @@ use Rattle.pl_wiring.specs.Peers.{IsPeer, peer_of}
 use Rattle.pl_wiring.specs.Plan.{IsPlan, Plan}
 use Rattle.pl_wiring.proofs.Exports.{at_contained, peer_says, same_switch}
 use Rattle.pl_journal.specs.declared.entry.Entry.{Entry}
-use Rattle.pl_journal.specs.declared.entry.Entry.TheVariants.{Arrived, Copied, Crossed, Dropped, Freed, Granted, Line, LinkDown, LinkUp, Made, Moved, Placed, Redirected, Registered, Sent, Settled, Skipped, Taken, Unsettled}
+use Rattle.pl_journal.specs.declared.entry.Entry.TheVariants.{Arrived, Copied, Crossed, Dropped, Freed, Granted, Line, LinkDown, LinkUp, Made, Moved, Placed, Redirected, Registered, Restarted, Sent, Settled, Skipped, Taken, Unsettled}
 use Rattle.pl_journal.specs.Flights.{ends, trail}
 use Rattle.pl_journal.specs.Lossy.{mac_of_host}
 use Rattle.pl_journal.proofs.Exports.{past_more, unicast_is_not_routed}
@@ -120,6 +120,7 @@ mark_is_aside x id frame (Placed s place) is = absurd is
 mark_is_aside x id frame (LinkDown a b) is = absurd is
 mark_is_aside x id frame (LinkUp a b) is = absurd is
 mark_is_aside x id frame (Moved h e p) is = absurd is
+mark_is_aside x id frame (Restarted number) is = absurd is
 
 -- no link is at a port for hosts
 no_link_there : (plan : Plan) (s port : ℕ) (link : Link) → peer_of plan s port ≡ HostPort → Contains plan.links link → IsAt link s port → ⊥

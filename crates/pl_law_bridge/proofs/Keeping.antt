@@ -2,7 +2,7 @@
 use Rattle.std.proofs.Common.{◌≡◌, ℕ, ◌+◌, ◌≤◌, List, [], ◌∷◌, None, ◌∙◌, subst, sym, refl, arith, reverse}
 use Rattle.std.specs.List.{AllByRecursion}
 use Rattle.pl_journal.specs.declared.entry.Entry.{Entry}
-use Rattle.pl_journal.specs.declared.entry.Entry.TheVariants.{Arrived, Copied, Crossed, Dropped, Freed, Granted, Line, LinkDown, LinkUp, Made, Moved, Placed, Redirected, Registered, Sent, Settled, Skipped, Taken, Unsettled}
+use Rattle.pl_journal.specs.declared.entry.Entry.TheVariants.{Arrived, Copied, Crossed, Dropped, Freed, Granted, Line, LinkDown, LinkUp, Made, Moved, Placed, Redirected, Registered, Restarted, Sent, Settled, Skipped, Taken, Unsettled}
 use Rattle.pl_node.specs.HostDuties.{HostsSendData}
 use Rattle.pl_node.specs.HostInputs.{HostRule}
 use Rattle.pl_node.specs.ManagerDuties.{ManagerRule}
@@ -61,6 +61,7 @@ mark_is_idle (Placed s place) is = absurd is
 mark_is_idle (LinkDown a b) is = absurd is
 mark_is_idle (LinkUp a b) is = absurd is
 mark_is_idle (Moved h e p) is = absurd is
+mark_is_idle (Restarted number) is = absurd is
 
 abbrev at_moment : WorldView → Moment → ℕ → Target → ℕ
 at_moment old (Step e) r there = gone_by old e r there

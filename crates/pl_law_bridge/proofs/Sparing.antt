@@ -8,7 +8,7 @@ use Rattle.pl_wiring.specs.Index.{port_index}
 use Rattle.pl_journal.specs.declared.cause.Cause.{Cause}
 use Rattle.pl_journal.specs.declared.cause.Cause.TheVariants as cause
 use Rattle.pl_journal.specs.declared.entry.Entry.{Entry}
-use Rattle.pl_journal.specs.declared.entry.Entry.TheVariants.{Arrived, Copied, Crossed, Dropped, Freed, Granted, Line, LinkDown, LinkUp, Made, Moved, Placed, Redirected, Registered, Sent, Settled, Skipped, Taken, Unsettled}
+use Rattle.pl_journal.specs.declared.entry.Entry.TheVariants.{Arrived, Copied, Crossed, Dropped, Freed, Granted, Line, LinkDown, LinkUp, Made, Moved, Placed, Redirected, Registered, Restarted, Sent, Settled, Skipped, Taken, Unsettled}
 use Rattle.pl_journal.specs.Flights.{trail}
 use Rattle.pl_journal.proofs.Exports.{past_more}
 use Rattle.pl_node.specs.declared.acts.Act.{Act}
@@ -75,6 +75,7 @@ module _ (x : Whereabouts) (id : ℕ) (frame : List ℕ) where
   same_line past (LinkDown a b) aside = (refl, refl)
   same_line past (LinkUp a b) aside = (refl, refl)
   same_line past (Moved h e p) aside = (refl, refl)
+  same_line past (Restarted n) aside = (refl, refl)
   same_line past (Settled n) aside = (refl, refl)
   same_line past (Unsettled n) aside = (refl, refl)
 

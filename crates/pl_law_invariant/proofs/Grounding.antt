@@ -1,16 +1,16 @@
 -- Where places are true, votes are in order and numbers are those that were given, placed edge switches stand apart, and no switch takes
 -- another switch for a host.
-use Rattle.std.proofs.Common.{◌≡◌, ℕ, ◌+◌, ◌<◌, ◌&&◌, Bool, true, false, List, [], Some, refl, sym, ap, subst, arith, inl, inr}
-use Rattle.std.proofs.lemmas.Bool.{cases_eq, cases_lt}
+use Rattle.std.proofs.Common.{◌≡◌, ℕ, ◌&&◌, Bool, true, false, List, [], Some, refl, sym, ap, subst, arith, inl, inr}
+use Rattle.std.proofs.lemmas.Bool.{cases_eq}
 use Rattle.std.proofs.lemmas.Option.{get_or_from_slice_get}
 use Rattle.pl_pmac.specs.declared.pmac.Pmac.{Pmac}
 use Rattle.pl_wiring.specs.declared.label.Label.{Label}
 use Rattle.pl_wiring.specs.declared.label.Label.TheVariants.{Aggregation, Core, Edge}
-use Rattle.pl_wiring.specs.Labels.{edge_count, label_of, switch_count}
+use Rattle.pl_wiring.specs.Labels.{label_of}
 use Rattle.pl_wiring.specs.Plan.{IsPlan}
 use Rattle.pl_layouts.specs.Placement.{is_known}
 use Rattle.pl_layouts.proofs.Exports.{known_is}
-use Rattle.pl_wiring.proofs.Exports.{entry_at-in_range, label_of-aggregation, label_of-core}
+use Rattle.pl_wiring.proofs.Exports.{entry_at-in_range}
 use Rattle.pl_node.specs.PortRecords.{is_open_to_hosts, port_of}
 use Rattle.pl_node.specs.SwitchViews.{SwitchView}
 use Rattle.pl_node.proofs.Exports.{among_of_Contains, any_among, closed_by}
@@ -27,7 +27,7 @@ use Rattle.pl_law_places.specs.Places.{ArePlaced}
 use Rattle.pl_law_votes.specs.Voting.{AreVoting, FixedAreApart}
 use Rattle.pl_law_votes.proofs.Exports.{fixed_are_apart, ids_differ}
 use Rattle.pl_law_pods.specs.Pods.{ArePodsGiven, id_of}
-use Rattle.pl_law_pods.proofs.Exports.{numbers_differ}
+use Rattle.pl_law_pods.proofs.Exports.{edge_there}
 use Rattle.pl_law_addresses.specs.Addressed.{IsGrounded}
 use Rattle.pl_journal.specs.Flights.{label_level}
 
@@ -55,23 +55,13 @@ stands v x is =
     and_both false b is = absurd (cc is)
 
 module _ (f : ControlPlane) (is : IsPlan f.plan) (placed : ArePlaced f.plan f) (apart : FixedAreApart f.plan f.view) (given : ArePodsGiven f) where
-  -- a switch that has position 0 as an edge switch is there
-  edge_there : (z pod i : ℕ) → label_of f.plan.k z ≡ Edge pod i → z < switch_count f.plan.k
-  edge_there z pod i edge = elim (cases_lt z (edge_count f.plan.k)) [
-    | inl low ↦ omega (arith, low)
-    | inr high ↦ elim (cases_lt z (edge_count f.plan.k + edge_count f.plan.k)) [
-      | inl low ↦ let other = label_of-aggregation f.plan.k z high low in absurd (cc (edge, other))
-      | inr higher ↦ let other = label_of-core f.plan.k z higher in absurd (cc (edge, other))
-    ]
-  ]
-
   -- the edge switches of position 0 of pods with one number are one
   one_zero : (s t n z y : ℕ) → IsZeroOf f.plan.k f.view s n z → IsZeroOf f.plan.k f.view t n y → z ≡ y
   one_zero s t n z y zero other = elim (cases_eq z y) [
     | inl same ↦ same
     | inr differ ↦
-        let same = numbers_differ f.manager.askers (id_of f.plan z) (id_of f.plan y) n (given.known z n zero.position zero.number) (given.known y n other.position other.number) in
-        absurd (ids_differ f.plan is z y (edge_there z zero.pod zero.i zero.edge) (edge_there y other.pod other.i other.edge) differ same)
+        let same = given.gives.apart (id_of f.plan z) (id_of f.plan y) n (given.known z n zero.position zero.number) (given.known y n other.position other.number) in
+        absurd (ids_differ f.plan is z y (edge_there f.plan.k z zero.pod zero.i zero.edge) (edge_there f.plan.k y other.pod other.i other.edge) differ same)
   ]
 
   one_place : (s t : ℕ) (x : Pmac) → Stands (f.view s) x → Stands (f.view t) x → s ≡ t

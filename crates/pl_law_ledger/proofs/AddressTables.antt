@@ -1,5 +1,5 @@
 -- What entries say of addresses.
-use Rattle.std.proofs.Common.{◌≡◌, ◌⊎◌, ◌+◌, ◌==◌, ◌&&◌, ◌||◌, not, ℕ, Bool, true, false, cond, if◌then◌else◌, List, [], ◌∷◌, Option, Some, None, refl, sym, ap, subst, ◌∙◌, inl, inr}
+use Rattle.std.proofs.Common.{◌≡◌, ◌⊎◌, ◌+◌, ◌==◌, ◌&&◌, ◌||◌, not, max, ℕ, Bool, true, false, cond, if◌then◌else◌, List, [], ◌∷◌, Option, Some, None, refl, sym, ap, subst, ◌∙◌, inl, inr}
 use Rattle.std.specs.List.{AllByRecursion}
 use Rattle.std.proofs.lemmas.Bool.{and_from, and_parts, cases_Bool, cond-false, cond-true, eq-eqb, eqb-true, false_from_ne_true, or_left, or_right}
 use Rattle.std.proofs.lemmas.Option.{none-some, same_Some}
@@ -10,7 +10,7 @@ use Rattle.pl_wiring.specs.declared.label.SwitchNo.{SwitchNo}
 use Rattle.pl_wiring.specs.Plan.{Plan}
 use Rattle.pl_journal.specs.declared.entry.Entry.{Entry}
 use Rattle.pl_journal.specs.declared.entry.Entry.TheVariants.{Freed, Granted, Moved, Registered}
-use Rattle.pl_journal.specs.Places.{EdgePort, are_alike, are_live_there, at_port, granted_at, has_stood, holder, is_live, is_of_edge, is_spent, number, registered, same_pod_and_position, same_edge_port, edge_port}
+use Rattle.pl_journal.specs.Places.{EdgePort, are_alike, are_live_there, at_port, granted_at, has_stood, highest, holder, is_live, is_of_edge, is_spent, number, same_pod_and_position, same_edge_port, edge_port}
 use Rattle.pl_node.specs.SwitchViews.{SwitchView}
 use Rattle.pl_world.specs.Changes.{host_of}
 use Rattle.pl_law_ledger.specs.Ledgers.{IsBacked, IsGrantedThere, ledger}
@@ -23,7 +23,7 @@ pub record Says : Type 0 where
   pub live : ℕ → Bool
   pub edge_ports : ℕ → Option EdgePort
   pub numbers : ℕ → Option ℕ
-  pub many : ℕ
+  pub top : ℕ
   pub stood : ℕ → EdgePort → Bool
   pub spent : EdgePort → Bool
   pub all_live : (ℕ → Bool) → EdgePort → Bool
@@ -35,7 +35,7 @@ says plan past = record {
   live = λ n. is_live past n;
   edge_ports = λ n. edge_port past n;
   numbers = λ n. number past n;
-  many = registered past;
+  top = highest past;
   stood = λ h there. has_stood plan past h there;
   spent = λ there. is_spent past there;
   all_live = λ live there. are_live_there live past there;
@@ -48,7 +48,7 @@ granted_more f x h e p = record {
   live = λ n. (pmac_number x == n) || f.live n;
   edge_ports = λ n. if pmac_number x == n then Some (at_port e.0 p) else f.edge_ports n;
   numbers = λ n. if pmac_number x == n then None else f.numbers n;
-  many = f.many;
+  top = f.top;
   stood = f.stood;
   spent = λ there. ((x.vmid == 65535) && same_edge_port (at_port e.0 p) there) || f.spent there;
   all_live = λ live there. (not (same_edge_port (at_port e.0 p) there) || live (pmac_number x)) && f.all_live live there;
@@ -59,7 +59,7 @@ abbrev freed_more : Says → Pmac → Says
 freed_more f x = record f { live = λ n. not (pmac_number x == n) && f.live n }
 
 abbrev registered_more : Says → Pmac → ℕ → Says
-registered_more f x m = record f { numbers = λ n. if pmac_number x == n then Some m else f.numbers n; many = f.many + 1 }
+registered_more f x m = record f { numbers = λ n. if pmac_number x == n then Some m else f.numbers n; top = max f.top m }
 
 abbrev moved_more : Says → HostNo → SwitchNo → ℕ → Says
 moved_more f h e p = record f { stood = λ host there. (h.0 == host && same_edge_port (at_port e.0 p) there) || f.stood host there }
@@ -187,14 +187,14 @@ module _ (plan : Plan) (s : ℕ) where
         (last_first entries f.pmac (host_of plan f.mac) Q h (ap (λ (q : Giving). host_of plan q.mac) here ∙ of) (subst (λ (q : Giving). Q q.pmac) (sym here) good)))
   ]
 
-  -- where hosts have stood, and how many addresses were registered, is as before
+  -- where hosts have stood, and the highest number, is as before
   pub record SaysAlike (entries later : List Entry) : Type 0 where
     pub stood : (h : ℕ) (there : EdgePort) → has_stood plan later h there ≡ has_stood plan entries h there
-    pub count : registered later ≡ registered entries
+    pub most : highest later ≡ highest entries
 
   alike_entry : (entries : List Entry) (x : Pmac) (o : Option ℕ) → SaysAlike entries (entry_for s entries x o)
-  alike_entry entries x None = record { stood = λ h there. refl; count = refl }
-  alike_entry entries x (Some m) = record { stood = λ h there. refl; count = refl }
+  alike_entry entries x None = record { stood = λ h there. refl; most = refl }
+  alike_entry entries x (Some m) = record { stood = λ h there. refl; most = refl }
 
   -- ---- numbers: one that is granted has none from then on
   number_entry : (entries : List Entry) (x : Pmac) (o : Option ℕ) (n : ℕ) → (pmac_number x ≡ n → ⊥) → number (entry_for s entries x o) n ≡ number entries n
@@ -257,11 +257,11 @@ module _ (plan : Plan) (s : ℕ) where
   some_holder (g ∷ gs) entries n is = some_holder gs (entry_for s entries g.pmac (host_of plan g.mac)) n (holder_entry entries g.pmac (host_of plan g.mac) n is)
 
   pub alike : (gs : List Giving) (entries : List Entry) → SaysAlike entries (all_written plan s entries gs)
-  alike [] entries = record { stood = λ h there. refl; count = refl }
+  alike [] entries = record { stood = λ h there. refl; most = refl }
   alike (g ∷ gs) entries =
       let one = alike_entry entries g.pmac (host_of plan g.mac) in
       let rest = alike gs (entry_for s entries g.pmac (host_of plan g.mac)) in
-      record { stood = λ h there. rest.stood h there ∙ one.stood h there; count = rest.count ∙ one.count }
+      record { stood = λ h there. rest.stood h there ∙ one.stood h there; most = rest.most ∙ one.most }
 
   backed_entry : (switches : List SwitchView) (entries : List Entry) (x : Pmac) (o : Option ℕ) → IsGrantedThere switches x s x.port → AllByRecursion (IsBacked switches) entries →
       AllByRecursion (IsBacked switches) (entry_for s entries x o)

@@ -1,13 +1,16 @@
--- Those that ask stay edge switches with position 0; so no more numbers are given than there are pods.
-use Rattle.std.proofs.Common.{◌≡◌, ◌≤◌, ◌<◌, ◌+◌, ◌==◌, ◌||◌, ℕ, zero, suc, Bool, true, false, cond, List, [], ◌∷◌, ◌++◌, length, Some, option_map, find, slice_get, refl, sym, ap, subst, subst₂, ◌∙◌, inl, inr, arith, eqb-true, eq-eqb}
-use Rattle.std.specs.List.{AllByRecursion, list_any, range_with_len}
-use Rattle.std.proofs.lemmas.Bool.{cases_Bool, cases_eq, cases_lt}
+-- Those that ask stay edge switches with position 0, and what is told of pods stays so; so each number is below how many pods there are.
+use Rattle.std.proofs.Common.{◌≡◌, ◌≤◌, ◌<◌, ◌+◌, ◌==◌, ◌||◌, ℕ, zero, suc, Bool, true, false, cond, List, [], ◌∷◌, map, Option, Some, None, option_map, find, slice_get, refl, sym, ap, subst, subst₂, ◌∙◌, inl, inr, arith, eqb-true, eq-eqb}
+use Rattle.std.specs.List.{AllByRecursion, IsDistinct, list_any, range_with_len}
+use Rattle.std.proofs.lemmas.Bool.{cases_Bool, cases_eq, cases_lt, false≢true, or_cases}
 use Rattle.std.proofs.lemmas.List.FromFn.{length-range_with_len}
-use Rattle.std.proofs.lemmas.Option.{get_or_from_slice_get}
+use Rattle.std.proofs.lemmas.Option.{get_or_from_slice_get, none-some, same_Some}
 use Rattle.pl_lemmas.proofs.Exports.{all_append, all_weaker, enough}
 use Rattle.pl_frame.specs.declared.address.SwitchId.{SwitchId}
+use Rattle.pl_frame.proofs.Exports.{same_id}
 use Rattle.pl_layouts.specs.declared.place.Place.{Place}
 use Rattle.pl_layouts.specs.Equality.{same_switch}
+use Rattle.pl_layouts.specs.Placement.{is_known}
+use Rattle.pl_layouts.proofs.Exports.{known_is}
 use Rattle.pl_wiring.specs.declared.label.Label.{Label}
 use Rattle.pl_wiring.specs.declared.label.Label.TheVariants.{Edge}
 use Rattle.pl_wiring.specs.Labels.{IsLabel, label_of, switch_count}
@@ -16,10 +19,12 @@ use Rattle.pl_wiring.proofs.Exports.{half_at_least, label_of-IsLabel}
 use Rattle.pl_node.specs.declared.acts.Act.{Act}
 use Rattle.pl_node.specs.declared.messages.ToManager.{ToManager}
 use Rattle.pl_node.specs.declared.messages.ToManager.TheVariants as tell
-use Rattle.pl_node.specs.ManagerViews.{ManagerView, PodGiven, pod_given, pods_given}
+use Rattle.pl_node.specs.declared.pod_given.PodGiven.{PodGiven}
+use Rattle.pl_node.specs.ManagerViews.{ManagerView, first_free, is_given_pod, is_taken, is_told_pod, pod_given}
 use Rattle.pl_node.specs.SwitchInputs.{SwitchInput}
 use Rattle.pl_node.specs.SwitchViews.{SwitchView}
 use Rattle.pl_manager_rule.specs.ManagerRule.{manager_hears, manager_rule, view_after, with_asker}
+use Rattle.pl_manager_rule.proofs.Exports.{asks_again, asks_first, first_is_free, number_stays, own_number}
 use Rattle.pl_switch_rule.specs.SwitchRule.{Loose, switch_step}
 use Rattle.pl_law_control_plane.specs.ControlPlanes.{ControlPlane, tells}
 use Rattle.pl_law_control_plane.specs.PlaneSteps.{IsReportTaken, LeftOver, ManagerTurns, PlaneStep, SwitchTurns}
@@ -28,11 +33,11 @@ use Rattle.pl_law_places.specs.Places.{ArePlaced, ArePodNumbers, PositionsDiffer
 use Rattle.pl_law_places.specs.Told.{IsTrueOf}
 use Rattle.pl_law_places.proofs.Exports.{all_left, true_of_itself}
 use Rattle.pl_law_votes.specs.Voting.{FixedAreApart}
-use Rattle.pl_law_pods.specs.Pods.{id_of}
-use Rattle.pl_law_pods.proofs.Exports.{edge_label, level_zero, number_stays}
-use Rattle.pl_law_placing.proofs.Exports.{IsWishWord, Seen, step_seen, told_wishes, turned_grown}
+use Rattle.pl_law_pods.specs.Pods.{ArePodsGiven, id_of}
+use Rattle.pl_law_pods.proofs.Exports.{all_inserted, edge_label, edge_there, known_are_given, level_zero}
+use Rattle.pl_law_placing.proofs.Exports.{IsOwnWord, Seen, step_seen, told_own, turned_grown}
 use Rattle.pl_law_placing.proofs.Exports.Seen.{Gone, Hears, Quiet, Ticks}
-use Rattle.pl_law_ledger.specs.Askers.{AreAsking, IsWishOf, IsZeroId, ZerosAsk}
+use Rattle.pl_law_ledger.specs.Askers.{AreAsking, IsGoodPod, IsPlaceOf, IsWordOf, IsZeroId, ZerosAsk}
 
 -- ---- what is known of places stays
 module _ (f g : ControlPlane) (is : IsPlan f.plan) (placed : ArePlaced f.plan f) (differ : PositionsDiffer f.plan f) (numbers : ArePodNumbers f) where
@@ -49,103 +54,67 @@ module _ (f g : ControlPlane) (is : IsPlan f.plan) (placed : ArePlaced f.plan f)
 zero_later : (plan : Plan) (old new : ℕ → SwitchView) → ((s : ℕ) → IsTrueOf (old s).place (new s).place) → (id : SwitchId) → IsZeroId plan old id → IsZeroId plan new id
 zero_later plan old new later id is = record { switch = is.switch; there = is.there; named = is.named; position = (later is.switch).position 0 is.position }
 
-wish_later : (old new : Place) → IsTrueOf old new → (told : ToManager) → IsWishOf old told → IsWishOf new told
-wish_later old new later tell.PodWanted is = later.position 0 is
-wish_later old new later told is = tt
+pod_later : (plan : Plan) (old new : ℕ → SwitchView) → ((s : ℕ) → IsTrueOf (old s).place (new s).place) → (given : PodGiven) → IsGoodPod plan old given → IsGoodPod plan new given
+pod_later plan old new later given is = record { zero_id = zero_later plan old new later given.switch is.zero_id; below = is.below }
 
-same_wish : (place : Place) (told : ToManager) → IsWishWord place told → IsWishOf place told
-same_wish place tell.PodWanted is = is
-same_wish place told is = tt
+place_later : (plan : Plan) (old new : ℕ → SwitchView) → ((s : ℕ) → IsTrueOf (old s).place (new s).place) → (told : SwitchId × Place) → IsPlaceOf plan old told → IsPlaceOf plan new told
+place_later plan old new later told is = record { switch = is.switch; named = is.named; pod = λ n has. (later is.switch).pod n (is.pod n has) }
+
+word_later : (old new : Place) → IsTrueOf old new → (told : ToManager) → IsWordOf old told → IsWordOf new told
+word_later old new later tell.PodWanted is = later.position 0 is
+word_later old new later (tell.Place told) is = λ n has. later.pod n (is n has)
+word_later old new later told is = tt
+
+same_word : (place : Place) (told : ToManager) → IsOwnWord place told → IsWordOf place told
+same_word place tell.PodWanted is = is
+same_word place (tell.Place told) is = is
+same_word place told is = tt
+
+-- what is known of who asked and of places, where places are known better
+known_later : (plan : Plan) (old new : ℕ → SwitchView) (manager : ManagerView) (before after : ℕ → List ToManager) → ((s : ℕ) → IsTrueOf (old s).place (new s).place) →
+    AreAsking plan old manager before → ((s : ℕ) → AllByRecursion (IsWordOf (new s).place) (after s)) → AreAsking plan new manager after
+known_later plan old new manager before after later asking waiting = record {
+  asked = all_weaker (IsGoodPod plan old) (IsGoodPod plan new) (pod_later plan old new later) manager.pods asking.asked;
+  told = all_weaker (IsPlaceOf plan old) (IsPlaceOf plan new) (place_later plan old new later) manager.told.places asking.told;
+  waiting = waiting;
+}
 
 -- items leave queues
-left_asking : (plan : Plan) (askers : List SwitchId) (f g : ControlPlane) → ((s : ℕ) → IsTrueOf (f.view s).place (g.view s).place) → ((s : ℕ) → LeftOver (f.reports s) (g.reports s)) →
-    AreAsking plan f.view askers f.reports → AreAsking plan g.view askers g.reports
-left_asking plan askers f g later left asking = record {
-  asked = all_weaker (IsZeroId plan f.view) (IsZeroId plan g.view) (zero_later plan f.view g.view later) askers asking.asked;
-  waiting = λ s. all_weaker (IsWishOf (f.view s).place) (IsWishOf (g.view s).place) (wish_later (f.view s).place (g.view s).place (later s)) (g.reports s)
-      (all_left (IsWishOf (f.view s).place) (f.reports s) (g.reports s) (left s) (asking.waiting s));
-}
+left_asking : (plan : Plan) (manager : ManagerView) (f g : ControlPlane) → ((s : ℕ) → IsTrueOf (f.view s).place (g.view s).place) → ((s : ℕ) → LeftOver (f.reports s) (g.reports s)) →
+    AreAsking plan f.view manager f.reports → AreAsking plan g.view manager g.reports
+left_asking plan manager f g later left asking = known_later plan f.view g.view manager f.reports g.reports later asking
+    (λ s. all_weaker (IsWordOf (f.view s).place) (IsWordOf (g.view s).place) (word_later (f.view s).place (g.view s).place (later s)) (g.reports s)
+    (all_left (IsWordOf (f.view s).place) (f.reports s) (g.reports s) (left s) (asking.waiting s)))
 
 -- a switch steps
-turned_asking : (plan : Plan) (askers : List SwitchId) (m g : ControlPlane) (s : ℕ) (input : SwitchInput) → ((t : ℕ) → IsTrueOf (m.view t).place (g.view t).place) →
-    (turns : SwitchTurns Loose m s input g) → AreAsking plan m.view askers m.reports → AreAsking plan g.view askers g.reports
-turned_asking plan askers m g s input later turns asking = record {
-  asked = all_weaker (IsZeroId plan m.view) (IsZeroId plan g.view) (zero_later plan m.view g.view later) askers asking.asked;
-  waiting = λ t.
-      let before : AllByRecursion (IsWishOf (g.view t).place) (m.reports t) =
-      all_weaker (IsWishOf (m.view t).place) (IsWishOf (g.view t).place) (wish_later (m.view t).place (g.view t).place (later t)) (m.reports t) (asking.waiting t) in
-      elim (cases_eq t s) [
-        | inr other ↦ subst (λ ts. AllByRecursion (IsWishOf (g.view t).place) ts) (sym (turns.acted.other_reports t other)) before
-        | inl here ↦
-            let step = switch_step turns.ruled.choose (m.view s) input in
-            let now : AllByRecursion (IsWishOf step.view.place) (tells step.acts) =
-            all_weaker (IsWishWord step.view.place) (IsWishOf step.view.place) (same_wish step.view.place) (tells step.acts)
-            (told_wishes turns.ruled.choose (m.view s) input) in
-            let after : step.view.place ≡ (g.view s).place = ap (λ (v : SwitchView). v.place) (sym (turns.acted.here ∙ turns.ruled.steps.view)) in
-            let told : AllByRecursion (IsWishOf (g.view s).place) (tells turns.acts) =
-            subst₂ (λ (p : Place) (acts : List Act). AllByRecursion (IsWishOf p) (tells acts)) after (sym turns.ruled.steps.done) now in
-            subst (λ x. AllByRecursion (IsWishOf (g.view x).place) (g.reports x)) (sym here)
-            (subst (λ ts. AllByRecursion (IsWishOf (g.view s).place) ts) (sym turns.acted.reports)
-            (all_append (IsWishOf (g.view s).place) (m.reports s) (tells turns.acts)
-            (subst (λ x. AllByRecursion (IsWishOf (g.view x).place) (m.reports x)) here before) told))
-      ];
-}
-
--- the manager hears a switch
-askers_now : (before : ManagerView) (id : SwitchId) (told : ToManager) (P : SwitchId → Type 0) → (told ≡ tell.PodWanted → P id) → AllByRecursion P before.askers →
-    AllByRecursion P (view_after before id told).askers
-askers_now before id tell.PodWanted P here all = by (list_any (λ (g : PodGiven). same_switch g.switch id) (pods_given before.askers))
-  where
-    by : (b : Bool) → AllByRecursion P (cond b before.askers (id ∷ before.askers))
-    by true = all
-    by false = (here refl, all)
-askers_now before id told P here all = all
-
-managed_asking : (f m g : ControlPlane) (s : ℕ) (id : SwitchId) (told : ToManager) → ZerosAsk f → s < switch_count f.plan.k → slice_get f.plan.ids s ≡ Some id → IsReportTaken f s told m →
-    ManagerTurns manager_rule m id told g → ZerosAsk g
-unfolding manager_hears
-managed_asking f m g s id told asking there named taken turns =
-    let same : (t : ℕ) → IsTrueOf (f.view t).place (g.view t).place = λ t. rw (turns.view t ∙ taken.left.view t) (true_of_itself (f.view t).place) in
-    let before = left_asking f.plan f.manager.askers f g same
-    (λ t. let queue = taken.left.reports t in record { gone = queue.gone; split = queue.split ∙ ap (λ xs. queue.gone ++ xs) (sym (turns.reports t)) }) asking in
-    let first : IsWishOf (f.view s).place told = (subst (AllByRecursion (IsWishOf (f.view s).place)) taken.first (asking.waiting s)).0 in
-    let is_after : g.manager ≡ view_after f.manager id told = turns.manager ∙ turns.ruled.0 ∙ ap (λ (v : ManagerView). view_after v id told) taken.left.manager in
-    subst₂ (λ (p : Plan) (v : ManagerView). AreAsking p g.view v.askers g.reports) (sym (turns.plan ∙ taken.left.plan)) (sym is_after) (record {
-      asked = askers_now f.manager id told (IsZeroId f.plan g.view) (λ wish. record {
-        switch = s;
-        there = there;
-        named = sym (get_or_from_slice_get f.plan.ids s id (record { 0 = 0 }) named);
-        position = (same s).position 0 (subst (λ (x : ToManager). IsWishOf (f.view s).place x) wish first);
-      }) before.asked;
-      waiting = before.waiting;
-    })
+turned_asking : (plan : Plan) (manager : ManagerView) (m g : ControlPlane) (s : ℕ) (input : SwitchInput) → ((t : ℕ) → IsTrueOf (m.view t).place (g.view t).place) →
+    (turns : SwitchTurns Loose m s input g) → AreAsking plan m.view manager m.reports → AreAsking plan g.view manager g.reports
+turned_asking plan manager m g s input later turns asking = known_later plan m.view g.view manager m.reports g.reports later asking
+    (λ t.
+    let before : AllByRecursion (IsWordOf (g.view t).place) (m.reports t) =
+    all_weaker (IsWordOf (m.view t).place) (IsWordOf (g.view t).place) (word_later (m.view t).place (g.view t).place (later t)) (m.reports t) (asking.waiting t) in
+    elim (cases_eq t s) [
+      | inr other ↦ subst (λ ts. AllByRecursion (IsWordOf (g.view t).place) ts) (sym (turns.acted.other_reports t other)) before
+      | inl here ↦
+          let step = switch_step turns.ruled.choose (m.view s) input in
+          let now : AllByRecursion (IsWordOf step.view.place) (tells step.acts) =
+          all_weaker (IsOwnWord step.view.place) (IsWordOf step.view.place) (same_word step.view.place) (tells step.acts)
+          (told_own turns.ruled.choose (m.view s) input) in
+          let after : step.view.place ≡ (g.view s).place = ap (λ (v : SwitchView). v.place) (sym (turns.acted.here ∙ turns.ruled.steps.view)) in
+          let told : AllByRecursion (IsWordOf (g.view s).place) (tells turns.acts) =
+          subst₂ (λ (p : Place) (acts : List Act). AllByRecursion (IsWordOf p) (tells acts)) after (sym turns.ruled.steps.done) now in
+          subst (λ x. AllByRecursion (IsWordOf (g.view x).place) (g.reports x)) (sym here)
+          (subst (λ ts. AllByRecursion (IsWordOf (g.view s).place) ts) (sym turns.acted.reports)
+          (all_append (IsWordOf (g.view s).place) (m.reports s) (tells turns.acts)
+          (subst (λ x. AllByRecursion (IsWordOf (g.view x).place) (m.reports x)) here before) told))
+    ])
 
 -- the wiring and the manager stay where a switch steps
-stays : (f g : ControlPlane) → g.plan ≡ f.plan → g.manager ≡ f.manager → AreAsking f.plan g.view f.manager.askers g.reports → ZerosAsk g
+stays : (f g : ControlPlane) → g.plan ≡ f.plan → g.manager ≡ f.manager → AreAsking f.plan g.view f.manager g.reports → ZerosAsk g
 stays f g same_plan same_manager asking =
-    subst₂ (λ (p : Plan) (v : ManagerView). AreAsking p g.view v.askers g.reports) (sym same_plan) (sym same_manager) asking
+    subst₂ (λ (p : Plan) (v : ManagerView). AreAsking p g.view v g.reports) (sym same_plan) (sym same_manager) asking
 
-pub plane_asking : (f g : ControlPlane) → ((s : ℕ) → IsTrueOf (f.view s).place (g.view s).place) → ZerosAsk f → PlaneStep Loose manager_rule f g → ZerosAsk g
-plane_asking f g later asking (Left left) = stays f g left.plan left.manager (left_asking f.plan f.manager.askers f g later left.reports asking)
-plane_asking f g later asking (Ticked s turns) =
-    stays f g turns.acted.plan turns.acted.manager (turned_asking f.plan f.manager.askers f g s _ later turns asking)
-plane_asking f g later asking (Heard t q s port frame mid adjacent control taken turns) =
-    stays f g (turns.acted.plan ∙ taken.left.plan) (turns.acted.manager ∙ taken.left.manager)
-    (turned_asking f.plan f.manager.askers mid g s _ (λ x. subst (λ (v : SwitchView). IsTrueOf v.place (g.view x).place) (sym (taken.left.view x)) (later x)) turns
-    (left_asking f.plan f.manager.askers f mid (λ x. rw (taken.left.view x) (true_of_itself (f.view x).place)) taken.left.reports asking))
-plane_asking f g later asking (Carried t q s port frame mid adjacent control carries taken turns) =
-    stays f g (turns.acted.plan ∙ taken.left.plan) (turns.acted.manager ∙ taken.left.manager)
-    (turned_asking f.plan f.manager.askers mid g s _ (λ x. subst (λ (v : SwitchView). IsTrueOf v.place (g.view x).place) (sym (taken.left.view x)) (later x)) turns
-    (left_asking f.plan f.manager.askers f mid (λ x. rw (taken.left.view x) (true_of_itself (f.view x).place)) taken.left.reports asking))
-plane_asking f g later asking (Entered s port frame edge within free control turns) =
-    stays f g turns.acted.plan turns.acted.manager (turned_asking f.plan f.manager.askers f g s _ later turns asking)
-plane_asking f g later asking (Ordered s says mid taken turns) =
-    stays f g (turns.acted.plan ∙ taken.left.plan) (turns.acted.manager ∙ taken.left.manager)
-    (turned_asking f.plan f.manager.askers mid g s _ (λ x. subst (λ (v : SwitchView). IsTrueOf v.place (g.view x).place) (sym (taken.left.view x)) (later x)) turns
-    (left_asking f.plan f.manager.askers f mid (λ x. rw (taken.left.view x) (true_of_itself (f.view x).place)) taken.left.reports asking))
-plane_asking f g later asking (Managed s id told mid there named taken turns) = managed_asking f mid g s id told asking there named taken turns
-
--- ---- no more numbers than pods
+-- ---- numbers of pods
 
 in_range : (a n p : ℕ) → a ≤ p → p < a + n → list_any (λ r. r == p) (range_with_len a n) ≡ true
 in_range a zero p low high = absurd (omega (arith, low, high))
@@ -160,79 +129,179 @@ in_range a (suc n) p low high = elim (cases_eq a p) [
     above : (x y : ℕ) → x ≤ y → (x ≡ y → ⊥) → x + 1 ≤ y
     above x y le ne = elim (cases_lt x y) [ inl lt ↦ omega (arith, lt) | inr ge ↦ absurd (ne (omega (arith, le, ge))) ]
 
--- each number was given to somebody who asked
-record IsGivenTo (askers : List SwitchId) (P : SwitchId → Type 0) (n : ℕ) : Type 0 where
+-- ---- each number is below how many pods there are
+-- a number was given to a switch with position 0
+record IsGivenTo (plan : Plan) (view : ℕ → SwitchView) (pods : List PodGiven) (n : ℕ) : Type 0 where
   id : SwitchId
-  asked : P id
-  given : pod_given askers id ≡ Some n
+  zero_id : IsZeroId plan view id
+  given : pod_given pods id ≡ Some n
 
-given_each : (askers : List SwitchId) (P : SwitchId → Type 0) → AllByRecursion P askers → (n : ℕ) → n < length (pods_given askers) → IsGivenTo askers P n
-given_each [] P all n less = absurd (omega (arith, less))
-given_each (s ∷ askers) P all n less = by (λ m few. given_each askers P all.1 m few) (list_any (λ (g : PodGiven). same_switch g.switch s) (pods_given askers)) refl
+-- one that was given a number is another switch than one that stands before it
+apart_from : (g : PodGiven) (pods : List PodGiven) (id : SwitchId) → AllByRecursion (λ t. same_switch g.switch t ≡ false) (map (λ (q : PodGiven). q.switch) pods) → (n : ℕ) →
+    pod_given pods id ≡ Some n → same_switch g.switch id ≡ false
+apart_from g [] id none n given = absurd (none-some n given)
+apart_from g (q ∷ pods) id none n given = by (λ found. apart_from g pods id none.1 n found) (same_switch q.switch id) refl given
   where
-    new : PodGiven
-    new = record { switch = s; pod = length (pods_given askers) }
+    by : (pod_given pods id ≡ Some n → same_switch g.switch id ≡ false) → (b : Bool) → same_switch q.switch id ≡ b →
+        option_map (λ (r : PodGiven). r.pod) (cond b (Some q) (find (λ (r : PodGiven). same_switch r.switch id) pods)) ≡ Some n → same_switch g.switch id ≡ false
+    by rest true same found = subst (λ t. same_switch g.switch t ≡ false) (same_id q.switch id (eqb-true q.switch.0 id.0 same)) none.0
+    by rest false other found = rest found
 
-    later : IsGivenTo askers P n → IsGivenTo (with_asker askers s) P n
-    later is = record { id = is.id; asked = is.asked; given = number_stays askers s is.id n is.given }
+-- of a number that was given, where each that asked stands once
+given_to : (plan : Plan) (view : ℕ → SwitchView) (pods : List PodGiven) → IsDistinct same_switch (map (λ (g : PodGiven). g.switch) pods) →
+    AllByRecursion (IsGoodPod plan view) pods → (n : ℕ) → is_given_pod pods n ≡ true → IsGivenTo plan view pods n
+unfolding IsDistinct
+given_to plan view [] once all n given = absurd (false≢true given)
+given_to plan view (g ∷ pods) once all n given = elim (cases_Bool (g.pod == n)) [
+  | inl own ↦ record {
+    id = g.switch;
+    zero_id = all.0.zero_id;
+    given = ap (λ b. option_map (λ (q : PodGiven). q.pod) (cond b (Some g) (find (λ (q : PodGiven). same_switch q.switch g.switch) pods))) (eq-eqb g.switch.0 g.switch.0 refl)
+        ∙ ap Some (eqb-true g.pod n own);
+  }
+  | inr other ↦
+      let it = given_to plan view pods once.1 all.1 n (sym (ap (λ b. b || is_given_pod pods n) other) ∙ given) in
+      record {
+        id = it.id;
+        zero_id = it.zero_id;
+        given = ap (λ b. option_map (λ (q : PodGiven). q.pod) (cond b (Some g) (find (λ (q : PodGiven). same_switch q.switch it.id) pods))) (apart_from g pods it.id once.0 n it.given) ∙ it.given;
+      }
+]
 
-    first : list_any (λ (g : PodGiven). same_switch g.switch s) (pods_given askers) ≡ false → n ≡ length (pods_given askers) → IsGivenTo (s ∷ askers) P n
-    first fresh is = record {
-      id = s;
-      asked = all.0;
-      given = ap (λ b. option_map (λ (g : PodGiven). g.pod) (find (λ (g : PodGiven). same_switch g.switch s) (cond b (pods_given askers) (record { switch = s; pod = length (pods_given askers) } ∷ pods_given askers)))) fresh
-          ∙ ap (λ b. option_map (λ (g : PodGiven). g.pod) (cond b (Some (record { switch = s; pod = length (pods_given askers) })) (find (λ (g : PodGiven). same_switch g.switch s) (pods_given askers)))) (eq-eqb s.0 s.0 refl)
-          ∙ ap Some (sym is);
-    }
-
-    by : ((m : ℕ) → m < length (pods_given askers) → IsGivenTo askers P m) → (b : Bool) → list_any (λ (g : PodGiven). same_switch g.switch s) (pods_given askers) ≡ b → IsGivenTo (s ∷ askers) P n
-    by rest true any =
-        let few = ap (λ b. length (cond b (pods_given askers) (record { switch = s; pod = length (pods_given askers) } ∷ pods_given askers))) any in
-        let is = rest n (omega (arith, less, few)) in
-        record {
-          id = is.id;
-          asked = is.asked;
-          given = ap (λ b. option_map (λ (g : PodGiven). g.pod) (find (λ (g : PodGiven). same_switch g.switch is.id) (cond b (pods_given askers) (record { switch = s; pod = length (pods_given askers) } ∷ pods_given askers)))) any ∙ is.given;
-        }
-    by rest false fresh = elim (cases_eq n (length (pods_given askers))) [
-      | inl last ↦ first fresh last
-      | inr other ↦
-          let few = ap (λ b. length (cond b (pods_given askers) (record { switch = s; pod = length (pods_given askers) } ∷ pods_given askers))) fresh in
-          let is = later (rest n (below n (length (pods_given askers)) (omega (arith, less, few)) other)) in
-          record { id = is.id; asked = is.asked; given = ap (λ b. pod_given (cond b askers (s ∷ askers)) is.id) (sym fresh) ∙ is.given }
-    ]
-      where
-        below : (x y : ℕ) → x < suc y → (x ≡ y → ⊥) → x < y
-        below x y le ne = elim (cases_lt x y) [ inl lt ↦ lt | inr ge ↦ absurd (ne (omega (arith, le, ge))) ]
-
-module _ (f : ControlPlane) (is : IsPlan f.plan) (placed : ArePlaced f.plan f) (apart : FixedAreApart f.plan f.view) (asking : ZerosAsk f) where
+module _ (f : ControlPlane) (is : IsPlan f.plan) (placed : ArePlaced f.plan f) (apart : FixedAreApart f.plan f.view) where
   -- number n was given to the edge switch with position 0 of pod p
-  record IsOfPod (n p : ℕ) : Type 0 where
+  record IsOfPod (pods : List PodGiven) (n p : ℕ) : Type 0 where
     id : SwitchId
     zero_id : IsZeroId f.plan f.view id
     i : ℕ
     edge : label_of f.plan.k zero_id.switch ≡ Edge p i
-    given : pod_given f.manager.askers id ≡ Some n
+    given : pod_given pods id ≡ Some n
 
-  of_pods_apart : (m n p : ℕ) → IsOfPod m p → IsOfPod n p → m ≡ n
-  of_pods_apart m n p a b =
+  of_pods_apart : (pods : List PodGiven) (m n p : ℕ) → IsOfPod pods m p → IsOfPod pods n p → m ≡ n
+  of_pods_apart pods m n p a b =
       let same = apart p a.i b.i 0 a.zero_id.switch b.zero_id.switch a.edge b.edge a.zero_id.position b.zero_id.position in
       let ids : a.id ≡ b.id = a.zero_id.named ∙ ap (id_of f.plan) same ∙ sym b.zero_id.named in
-      some_same (sym a.given ∙ ap (λ x. pod_given f.manager.askers x) ids ∙ b.given)
-    where
-      some_same : Some m ≡ Some n → m ≡ n
-      some_same e = cc
+      same_Some m n (sym a.given ∙ ap (λ x. pod_given pods x) ids ∙ b.given)
 
   edge_pod : (label : Label) (p i : ℕ) → IsLabel f.plan.k label → label ≡ Edge p i → p < f.plan.k
   edge_pod label p i fits same = (subst (λ (l : Label). IsLabel f.plan.k l) same fits).0
 
-  pub few_numbers_given : length (pods_given f.manager.askers) ≤ f.plan.k
-  few_numbers_given =
+  -- no more numbers can be given to such switches than there are pods
+  few_given : (pods : List PodGiven) (many : ℕ) → ((n : ℕ) → n < many → IsGivenTo f.plan f.view pods n) → many ≤ f.plan.k
+  few_given pods many each =
       let half = half_at_least f.plan.k is.arity in
-      let within = enough IsOfPod of_pods_apart (length (pods_given f.manager.askers)) (range_with_len 0 f.plan.k) (λ n less.
-      let to = given_each f.manager.askers (IsZeroId f.plan f.view) asking.asked n less in
-      let edge = edge_label f is placed apart to.asked.switch (level_zero f is placed apart to.asked.switch 0 to.asked.position) in
-      let pod : edge.0 < f.plan.k = edge_pod (label_of f.plan.k to.asked.switch) edge.0 edge.1 (label_of-IsLabel f.plan.k to.asked.switch (omega (arith, half)) to.asked.there) edge.2 in
-      (edge.0, record { id = to.id; zero_id = to.asked; i = edge.1; edge = edge.2; given = to.given }, in_range 0 f.plan.k edge.0 (omega arith) (omega (arith, pod)))) in
+      let within = enough (IsOfPod pods) (of_pods_apart pods) many (range_with_len 0 f.plan.k) (λ n less.
+      let to = each n less in
+      let edge = edge_label f is placed apart to.zero_id.switch (level_zero f is placed apart to.zero_id.switch 0 to.zero_id.position) in
+      let pod : edge.0 < f.plan.k = edge_pod (label_of f.plan.k to.zero_id.switch) edge.0 edge.1 (label_of-IsLabel f.plan.k to.zero_id.switch (omega (arith, half)) to.zero_id.there) edge.2 in
+      (edge.0, record { id = to.id; zero_id = to.zero_id; i = edge.1; edge = edge.2; given = to.given }, in_range 0 f.plan.k edge.0 (omega arith) (omega (arith, pod)))) in
       let long = length-range_with_len 0 f.plan.k in
       omega (arith, within, long)
+
+  module _ (given : ArePodsGiven f) (asking : ZerosAsk f) where
+    -- each pod that stands in a place told was given to the edge switch with position 0 of that pod
+    told_given : (places : List (SwitchId × Place)) → AllByRecursion (IsPlaceOf f.plan f.view) places → (n : ℕ) →
+        list_any (λ (p : SwitchId × Place). is_known p.1.pod n) places ≡ true → IsGivenTo f.plan f.view f.manager.pods n
+    told_given [] all n stands = absurd (false≢true stands)
+    told_given (p ∷ places) all n stands = elim (cases_Bool (is_known p.1.pod n)) [
+      | inr other ↦ told_given places all.1 n (sym (ap (λ b. b || list_any (λ (q : SwitchId × Place). is_known q.1.pod n) places) other) ∙ stands)
+      | inl own ↦
+          let knows = all.0.pod n (known_is p.1.pod n own) in
+          let lowest = known_are_given f placed given all.0.switch n knows in
+          record {
+            id = id_of f.plan lowest.0;
+            zero_id = record {
+              switch = lowest.0;
+              there = edge_there f.plan.k lowest.0 lowest.1.pod lowest.1.i lowest.1.edge;
+              named = refl;
+              position = lowest.1.position;
+            };
+            given = lowest.2;
+          }
+    ]
+
+    taken_given : (n : ℕ) → is_taken f.manager.told f.manager.pods n ≡ true → IsGivenTo f.plan f.view f.manager.pods n
+    taken_given n taken = elim (or_cases (is_told_pod f.manager.told n) (is_given_pod f.manager.pods n) taken) [
+      | inl stands ↦ told_given f.manager.told.places asking.told n stands
+      | inr was ↦ given_to f.plan f.view f.manager.pods given.gives.ordered.askers asking.asked n was
+    ]
+
+    -- a switch with position 0 asks for the first time: the number that it is given is below how many pods there are
+    next_below : (id : SwitchId) → IsZeroId f.plan f.view id → pod_given f.manager.pods id ≡ None → first_free f.manager.told f.manager.pods < f.plan.k
+    next_below id asker none =
+        let few = few_given (with_asker f.manager.told f.manager.pods id) (first_free f.manager.told f.manager.pods + 1) (λ n less. given_then n less) in
+        omega (arith, few)
+      where
+        -- it, and each smaller one, was given to somebody then
+        given_then : (n : ℕ) → n < first_free f.manager.told f.manager.pods + 1 → IsGivenTo f.plan f.view (with_asker f.manager.told f.manager.pods id) n
+        given_then n less = elim (cases_eq n (first_free f.manager.told f.manager.pods)) [
+          | inl last ↦ record { id = id; zero_id = asker; given = own_number f.manager.told f.manager.pods id none ∙ ap Some (sym last) }
+          | inr other ↦
+              let it = taken_given n ((first_is_free f.manager.told f.manager.pods).smallest n (omega (arith, less, other))) in
+              record { id = it.id; zero_id = it.zero_id; given = number_stays f.manager.told f.manager.pods id it.id n it.given }
+        ]
+
+    -- who asked then
+    asked_now : (id : SwitchId) → IsZeroId f.plan f.view id → AllByRecursion (IsGoodPod f.plan f.view) (with_asker f.manager.told f.manager.pods id)
+    asked_now id asker = by (pod_given f.manager.pods id) refl
+      where
+        by : (o : Option ℕ) → pod_given f.manager.pods id ≡ o → AllByRecursion (IsGoodPod f.plan f.view) (with_asker f.manager.told f.manager.pods id)
+        by (Some n) has = subst (AllByRecursion (IsGoodPod f.plan f.view)) (sym (asks_again f.manager.told f.manager.pods id n has)) asking.asked
+        by None none =
+            subst (AllByRecursion (IsGoodPod f.plan f.view)) (sym (asks_first f.manager.told f.manager.pods id none))
+            (record { zero_id = asker; below = next_below id asker none }, asking.asked)
+
+    -- the manager hears a switch
+    heard_asking : (s : ℕ) (id : SwitchId) (told : ToManager) → s < switch_count f.plan.k → id ≡ id_of f.plan s → IsWordOf (f.view s).place told → (reports : ℕ → List ToManager) →
+        ((t : ℕ) → AllByRecursion (IsWordOf (f.view t).place) (reports t)) → AreAsking f.plan f.view (view_after f.manager id told) reports
+    heard_asking s id tell.PodWanted there named word reports waiting = record {
+      asked = asked_now id (record { switch = s; there = there; named = named; position = word });
+      told = asking.told;
+      waiting = waiting;
+    }
+    heard_asking s id (tell.Place place) there named word reports waiting = record {
+      asked = asking.asked;
+      told = all_inserted (IsPlaceOf f.plan f.view) f.manager.told.places id place (record { switch = s; named = named; pod = word }) asking.told;
+      waiting = waiting;
+    }
+    heard_asking s id (tell.Link u usable) there named word reports waiting = record { asked = asking.asked; told = asking.told; waiting = waiting }
+    heard_asking s id (tell.Learned x mac ip) there named word reports waiting = record { asked = asking.asked; told = asking.told; waiting = waiting }
+    heard_asking s id (tell.Aged x number) there named word reports waiting = record { asked = asking.asked; told = asking.told; waiting = waiting }
+    heard_asking s id (tell.Query asker asker_ip ip) there named word reports waiting = record { asked = asking.asked; told = asking.told; waiting = waiting }
+    heard_asking s id (tell.Members group any) there named word reports waiting = record { asked = asking.asked; told = asking.told; waiting = waiting }
+
+    managed_asking : (m g : ControlPlane) (s : ℕ) (id : SwitchId) (told : ToManager) → s < switch_count f.plan.k → slice_get f.plan.ids s ≡ Some id → IsReportTaken f s told m →
+        ManagerTurns manager_rule m id told g → ZerosAsk g
+    unfolding manager_hears
+    managed_asking m g s id told there named taken turns =
+        let same : (t : ℕ) → g.view t ≡ f.view t = λ t. turns.view t ∙ taken.left.view t in
+        let later : (t : ℕ) → IsTrueOf (f.view t).place (g.view t).place = λ t. rw (same t) (true_of_itself (f.view t).place) in
+        let word : IsWordOf (f.view s).place told = (subst (AllByRecursion (IsWordOf (f.view s).place)) taken.first (asking.waiting s)).0 in
+        let waiting : (t : ℕ) → AllByRecursion (IsWordOf (f.view t).place) (g.reports t) =
+        λ t. subst (λ ts. AllByRecursion (IsWordOf (f.view t).place) ts) (sym (turns.reports t))
+        (all_left (IsWordOf (f.view t).place) (f.reports t) (m.reports t) (taken.left.reports t) (asking.waiting t)) in
+        let heard = heard_asking s id told there (sym (get_or_from_slice_get f.plan.ids s id (record { 0 = 0 }) named)) word g.reports waiting in
+        let is_after : g.manager ≡ view_after f.manager id told = turns.manager ∙ turns.ruled.0 ∙ ap (λ (v : ManagerView). view_after v id told) taken.left.manager in
+        subst₂ (λ (p : Plan) (v : ManagerView). AreAsking p g.view v g.reports) (sym (turns.plan ∙ taken.left.plan)) (sym is_after)
+        (known_later f.plan f.view g.view (view_after f.manager id told) g.reports g.reports later heard
+        (λ t. all_weaker (IsWordOf (f.view t).place) (IsWordOf (g.view t).place) (word_later (f.view t).place (g.view t).place (later t)) (g.reports t) (waiting t)))
+
+  pub plane_asking : (g : ControlPlane) → ArePodsGiven f → ((s : ℕ) → IsTrueOf (f.view s).place (g.view s).place) → ZerosAsk f → PlaneStep Loose manager_rule f g → ZerosAsk g
+  plane_asking g given later asking (Left left) = stays f g left.plan left.manager (left_asking f.plan f.manager f g later left.reports asking)
+  plane_asking g given later asking (Ticked s turns) =
+      stays f g turns.acted.plan turns.acted.manager (turned_asking f.plan f.manager f g s _ later turns asking)
+  plane_asking g given later asking (Heard t q s port frame mid adjacent control taken turns) =
+      stays f g (turns.acted.plan ∙ taken.left.plan) (turns.acted.manager ∙ taken.left.manager)
+      (turned_asking f.plan f.manager mid g s _ (λ x. subst (λ (v : SwitchView). IsTrueOf v.place (g.view x).place) (sym (taken.left.view x)) (later x)) turns
+      (left_asking f.plan f.manager f mid (λ x. rw (taken.left.view x) (true_of_itself (f.view x).place)) taken.left.reports asking))
+  plane_asking g given later asking (Carried t q s port frame mid adjacent control carries taken turns) =
+      stays f g (turns.acted.plan ∙ taken.left.plan) (turns.acted.manager ∙ taken.left.manager)
+      (turned_asking f.plan f.manager mid g s _ (λ x. subst (λ (v : SwitchView). IsTrueOf v.place (g.view x).place) (sym (taken.left.view x)) (later x)) turns
+      (left_asking f.plan f.manager f mid (λ x. rw (taken.left.view x) (true_of_itself (f.view x).place)) taken.left.reports asking))
+  plane_asking g given later asking (Entered s port frame edge within free control turns) =
+      stays f g turns.acted.plan turns.acted.manager (turned_asking f.plan f.manager f g s _ later turns asking)
+  plane_asking g given later asking (Ordered s says mid taken turns) =
+      stays f g (turns.acted.plan ∙ taken.left.plan) (turns.acted.manager ∙ taken.left.manager)
+      (turned_asking f.plan f.manager mid g s _ (λ x. subst (λ (v : SwitchView). IsTrueOf v.place (g.view x).place) (sym (taken.left.view x)) (later x)) turns
+      (left_asking f.plan f.manager f mid (λ x. rw (taken.left.view x) (true_of_itself (f.view x).place)) taken.left.reports asking))
+  plane_asking g given later asking (Managed s id told mid there named taken turns) = managed_asking given asking mid g s id told there named taken turns

@@ -100,7 +100,7 @@ move_ledger u h to within l = record {
   numbers = l.numbers;
   unnumbered = l.unnumbered;
   numbered = l.numbered;
-  count = l.count;
+  most = l.most;
 }
 
 module _ (w : WorldView) (f : Facts w) (at_edges : HostsAtEdges w) (addressed : AreAddressed w.plan w.manager w.switches w.to_manager w.from_manager)

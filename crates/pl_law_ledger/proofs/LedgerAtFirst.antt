@@ -51,7 +51,7 @@ boot_ledger plan limits = record {
   numbers = λ x n fits is. absurd (none-some n is);
   unnumbered = λ s x fits any none. refl;
   numbered = λ n m is. absurd (none-some m is);
-  count = refl;
+  most = omega arith;
 }
 
 -- each step

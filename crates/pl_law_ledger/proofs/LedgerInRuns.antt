@@ -1,10 +1,10 @@
 -- In every run pods and positions of placed edge switches are numbers of one byte, and the journal says of addresses what the switches granted
 -- and the manager registered.
-use Rattle.std.proofs.Common.{◌≡◌, ℕ, ◌≤◌, ◌&&◌, List, [], ◌∷◌, ◌++◌, length, zero, Some, None, refl, sym, ap, subst, ◌∙◌, arith}
+use Rattle.std.proofs.Common.{◌≡◌, ◌<◌, ℕ, ◌&&◌, List, [], ◌∷◌, ◌++◌, zero, Some, None, refl, sym, ap, subst, ◌∙◌, arith}
 use Rattle.std.specs.List.{AllByRecursion}
 use Rattle.std.proofs.lemmas.Bool.{and_parts}
 use Rattle.std.proofs.lemmas.Option.{get_or_from_slice_get}
-use Rattle.pl_lemmas.proofs.Exports.{replicated_empty}
+use Rattle.pl_lemmas.proofs.Exports.{all_weaker, replicated_empty}
 use Rattle.pl_layouts.specs.Placement.{is_known}
 use Rattle.pl_layouts.proofs.Exports.{known_is}
 use Rattle.pl_wiring.specs.Labels.{switch_count}
@@ -12,7 +12,7 @@ use Rattle.pl_wiring.specs.Plan.{Plan}
 use Rattle.pl_node.specs.declared.messages.ToManager.{ToManager}
 use Rattle.pl_node.specs.HostDuties.{HostsSendData, HostsSendOwn}
 use Rattle.pl_node.specs.HostInputs.{HostRule}
-use Rattle.pl_node.specs.ManagerViews.{pods_given}
+use Rattle.pl_node.specs.declared.pod_given.PodGiven.{PodGiven}
 use Rattle.pl_node.specs.SwitchViews.{SwitchView}
 use Rattle.pl_journal.specs.declared.entry.Entry.{Entry}
 use Rattle.pl_journal.specs.declared.entry.Entry.TheVariants.{Line, Settled, Unsettled}
@@ -35,14 +35,14 @@ use Rattle.pl_law_votes.proofs.Exports.{fixed_are_apart}
 use Rattle.pl_law_addresses.specs.Addressed.{IsGrounded}
 use Rattle.pl_law_invariant.specs.ControlInvariant.{ControlInvariant}
 use Rattle.pl_law_invariant.proofs.Exports.{grounded, run_keeps_all}
-use Rattle.pl_law_pods.proofs.Exports.{given_below, numbers_fit}
+use Rattle.pl_law_pods.proofs.Exports.{found_is, numbers_fit}
 use Rattle.pl_law_pods.specs.Pods.{id_of}
 use Rattle.pl_law_ledger.specs.Ledgers.{AreInBounds, IsLedger, ledger}
 use Rattle.pl_law_ledger.proofs.LedgerAtFirst.{boot_ledger, step_ledger}
 use Rattle.pl_law_ledger.proofs.GrantsWritten.{one_quiet, parts_of}
 use Rattle.pl_law_ledger.proofs.TurnsKeepLedger.{IsIn}
-use Rattle.pl_law_ledger.specs.Askers.{IsWishOf, ZerosAsk}
-use Rattle.pl_law_ledger.proofs.Asking.{few_numbers_given, plane_asking, plane_grown}
+use Rattle.pl_law_ledger.specs.Askers.{IsGoodPod, IsWordOf, ZerosAsk}
+use Rattle.pl_law_ledger.proofs.Asking.{plane_asking, plane_grown}
 
 -- what else holds in every run
 abbrev pub AlsoHolds : HostRule → Plan → Limits → (WorldView → Type 0) → Type 0
@@ -74,11 +74,11 @@ module _ (host : HostRule) (sends : HostsSendData host) (owns : HostsSendOwn hos
       WorldRun Loose manager_rule host (booted plan limits) moments new → Holds new
   kept_in_run plan limits can also holds moments new run = from_there plan limits can also [] (booted plan limits) refl holds moments new run
 
-pub few_in : (w : WorldView) → ControlInvariant w → ZerosAsk (control_plane w) → length (pods_given w.manager.askers) ≤ w.plan.k
-few_in w kept asking =
-    let is = kept.counted.formed.plan in
+-- each number that was given is below how many pods there are
+pub below_in : (w : WorldView) → ZerosAsk (control_plane w) → AllByRecursion (λ (g : PodGiven). g.pod < w.plan.k) w.manager.pods
+below_in w asking =
     let f = control_plane w in
-    few_numbers_given f is kept.placed (fixed_are_apart f.plan f.view f.says is kept.voting) asking
+    all_weaker (IsGoodPod f.plan f.view) (λ (g : PodGiven). g.pod < w.plan.k) (λ g good. good.below) w.manager.pods asking.asked
 
 -- ---- numbers of one byte
 pub in_bounds : (w : WorldView) → ControlInvariant w → ZerosAsk (control_plane w) → AreInBounds w.switches
@@ -92,11 +92,10 @@ in_bounds w kept asking s v x found local =
     let position : (f.view s).place.position ≡ Some x.position = ap (λ (u : SwitchView). u.place.position) here ∙ known_is v.place.position x.position rest.1 in
     let zero = kept.placed.pods s x.pod pod in
     let given = kept.given.known zero.0 x.pod zero.1.position zero.1.number in
-    let below = given_below f.manager.askers (id_of f.plan zero.0) x.pod given in
-    let few = few_numbers_given f is kept.placed (fixed_are_apart f.plan f.view f.says is kept.voting) asking in
+    let below : x.pod < f.plan.k = found_is (λ n. n < f.plan.k) f.manager.pods (id_of f.plan zero.0) x.pod (below_in w asking) given in
     let most = is.arity.most in
     let small = ((kept.placed.own s).position x.position position).1 in
-    record { pod = omega (arith, below, few, most); position = omega (arith, small, most) }
+    record { pod = omega (arith, below, most); position = omega (arith, small, most) }
 
 pub grounds : (w : WorldView) → ControlInvariant w → IsGrounded w
 grounds w kept = grounded w kept.counted kept.placed kept.voting kept.given
@@ -119,7 +118,8 @@ pub entered_step : (host : HostRule) (old : WorldView) (event : Event) (new : Wo
     WorldStep Loose manager_rule host old event new → IsEnteredAll new
 entered_step host old event new kept kept_then entered none step =
     let f = control_plane old in let g = control_plane new in
-    let asking = plane_asking f g (places_grow host old event new kept none step) entered.asking
+    let is = kept.counted.formed.plan in
+    let asking = plane_asking f is kept.placed (fixed_are_apart f.plan f.view f.says is kept.voting) g kept.given (places_grow host old event new kept none step) entered.asking
     (step_in_plane Loose manager_rule host loose_steps_are_accounted old event new kept.counted kept.hosts none step) in
     record {
       asking = asking;
@@ -140,7 +140,8 @@ pub entered_first : (plan : Plan) (limits : Limits) → IsEnteredAll (booted pla
 entered_first plan limits = record {
   asking = record {
     asked = tt;
-    waiting = λ s. subst (λ (ts : List ToManager). AllByRecursion (IsWishOf ((control_plane (booted plan limits)).view s).place) ts) (sym (replicated_empty {X = ToManager} (switch_count plan.k) s)) tt;
+    told = tt;
+    waiting = λ s. subst (λ (ts : List ToManager). AllByRecursion (IsWordOf ((control_plane (booted plan limits)).view s).place) ts) (sym (replicated_empty {X = ToManager} (switch_count plan.k) s)) tt;
   };
   ledger = boot_ledger plan limits;
 }

@@ -13,4 +13,5 @@ pub mod EventsKeepLedger
 pub mod LedgerAtFirst
 pub mod Asking
 pub mod LedgerInRuns
+pub mod Leading
 pub mod Exports

@@ -1,5 +1,5 @@
 -- The fabric manager keeps the ledger: what it registers is written down.
-use Rattle.std.proofs.Common.{◌≡◌, ◌⊎◌, ◌+◌, ◌==◌, ℕ, true, false, cond, List, [], ◌∷◌, ◌++◌, fold, map, Option, Some, None, option_map, unwrap_or, refl, sym, ap, subst, ◌∙◌, inl, inr, append_assoc}
+use Rattle.std.proofs.Common.{◌≡◌, ◌⊎◌, ◌≤◌, ◌+◌, ◌==◌, max, ℕ, true, false, cond, List, [], ◌∷◌, ◌++◌, fold, map, Option, Some, None, option_map, unwrap_or, refl, sym, ap, subst, ◌∙◌, inl, inr, arith, append_assoc}
 use Rattle.std.specs.List.{flat_map, list_any}
 use Rattle.std.proofs.lemmas.Bool.{cases_Bool, cond-false, cond-true, eq-eqb, false≢true, ne_eqb, eqb-true}
 use Rattle.std.proofs.lemmas.Option.{none-some}
@@ -21,7 +21,7 @@ use Rattle.pl_node.specs.ManagerFacts.{groups}
 use Rattle.pl_node.specs.SwitchViews.{SwitchView}
 use Rattle.pl_journal.specs.declared.entry.Entry.{Entry}
 use Rattle.pl_journal.specs.declared.entry.Entry.TheVariants.{Registered}
-use Rattle.pl_journal.specs.Places.{number, holder}
+use Rattle.pl_journal.specs.Places.{highest, number, holder}
 use Rattle.pl_manager_rule.specs.Histories.{Word, known}
 use Rattle.pl_manager_rule.specs.ManagerRule.{answer_to, avoid_acts, changed, changed_of_group, hears_aged, invalidation, learning, manager_hears, tree_acts, tree_acts_of, view_after}
 use Rattle.pl_wiring.specs.Plan.{Plan}
@@ -194,7 +194,7 @@ module _ (k : ℕ) (words : List Word) (id : SwitchId) where
   learns (tell.Link u usable) = nothing_learnt (tell.Link u usable) [] (view_after (known k words) id (tell.Link u usable)) refl refl
   learns tell.PodWanted =
       let after = view_after (known k words) id tell.PodWanted in
-      nothing_learnt tell.PodWanted (Say id (say.Pod (unwrap_or (pod_given after.askers id) 0)) ∷ []) after refl refl
+      nothing_learnt tell.PodWanted (Say id (say.Pod (unwrap_or (pod_given after.pods id) 0)) ∷ []) after refl refl
   learns (tell.Query asker asker_ip ip) =
       nothing_learnt (tell.Query asker asker_ip ip) (Say id (answer_to asker asker_ip ip (lookup (known k words).learnt ip)) ∷ []) (known k words) refl refl
   learns (tell.Members group any) = nothing_learnt (tell.Members group any) [] (view_after (known k words) id (tell.Members group any)) refl refl
@@ -214,7 +214,7 @@ module _ (plan : Plan) (learnt after : Learnt) (switches : List SwitchView) (att
     numbers = λ x n fits is. before.numbers x n fits (sym (l.at x) ∙ is);
     unnumbered = λ s x fits tells none. before.unnumbered s x fits (fewer s x tells) (sym (l.at x) ∙ none);
     numbered = before.numbered;
-    count = before.count ∙ sym l.count;
+    most = subst (λ n. highest entries ≤ n) (sym l.count) before.most;
   })
 
   -- what is released waits for nothing
@@ -231,7 +231,7 @@ module _ (plan : Plan) (learnt after : Learnt) (switches : List SwitchView) (att
     numbers = λ x n fits is. before.numbers x n fits (l.was x n is);
     unnumbered = λ s x fits tells none. before.unnumbered s x fits (fewer s x tells) (silent s x tells none);
     numbered = before.numbered;
-    count = before.count ∙ sym l.count;
+    most = subst (λ n. highest entries ≤ n) (sym l.count) before.most;
   })
 
   pub one_entered : (ns : List Numbering) (x : Pmac) → PmacFits x → (h : ℕ) × (holder entries (pmac_number x) ≡ Some h) → LearnsOne learnt after ns x →
@@ -258,9 +258,12 @@ module _ (plan : Plan) (learnt after : Learnt) (switches : List SwitchView) (att
       | inl same ↦ (held.0, ap (λ k. holder entries k) (sym (eqb-true (pmac_number x) n same)) ∙ held.1)
       | inr other ↦ before.numbered n m (sym (cond-false (pmac_number x == n) (Some (learnt.count + 1)) (number entries n) other) ∙ is)
     ];
-    count = ap (λ n. n + 1) before.count ∙ sym l.count;
+    most = subst (λ n. max (highest entries) (learnt.count + 1) ≤ n) (sym l.count) (raised (highest entries) learnt.count before.most);
   })
     where
+      raised : (m n : ℕ) → m ≤ n → max m (n + 1) ≤ n + 1
+      raised m n less = omega (arith, less)
+
       apart : (y : Pmac) → PmacFits y → same_pmac x y ≡ false → cond (pmac_number x == pmac_number y) (Some (learnt.count + 1)) (number entries (pmac_number y)) ≡ number entries (pmac_number y)
       apart y fits other =
           cond-false (pmac_number x == pmac_number y) (Some (learnt.count + 1)) (number entries (pmac_number y))

@@ -298,7 +298,7 @@ module _ (plan : Plan) (learnt : Learnt) (switches : List SwitchView) (attachmen
           numbers = numbers_now;
           unnumbered = unnumbered_now;
           numbered = λ n m is. some_holder plan s gs entries n (before.numbered n m (was_number plan s gs entries n m is));
-          count = same.count ∙ before.count;
+          most = subst (λ n. n ≤ learnt.count) (sym same.most) before.most;
         }
 
   -- ---- an address is freed
@@ -373,5 +373,5 @@ module _ (plan : Plan) (learnt : Learnt) (switches : List SwitchView) (attachmen
       numbers = before.numbers;
       unnumbered = before.unnumbered;
       numbered = before.numbered;
-      count = before.count;
+      most = before.most;
     }

@@ -9,7 +9,7 @@ use Rattle.pl_wiring.specs.Peers.{peer_of}
 use Rattle.pl_wiring.specs.Plan.{Plan}
 use Rattle.pl_journal.specs.declared.entry.Entry.{Entry}
 use Rattle.pl_journal.specs.declared.entry.Entry.TheVariants.{Freed, Granted, Moved, Registered}
-use Rattle.pl_journal.specs.Places.{EdgePort, at_port, granted_at, has_stood, holder, is_live, number, registered, edge_port}
+use Rattle.pl_journal.specs.Places.{EdgePort, at_port, granted_at, has_stood, highest, holder, is_live, number, edge_port}
 use Rattle.pl_node.specs.AddressUses.{is_held, is_in_use}
 use Rattle.pl_node.specs.declared.messages.ToManager.{ToManager}
 use Rattle.pl_node.specs.declared.switch_records.Grant.{Grant}
@@ -82,7 +82,8 @@ pub record AreEntered (plan : Plan)
       number entries (pmac_number x) ≡ None
   -- an address with a number was granted
   pub numbered : (n m : ℕ) → number entries n ≡ Some m → (h : ℕ) × (holder entries n ≡ Some h)
-  pub count : registered entries ≡ learnt.count
+  -- no number is above the last one that the manager gave
+  pub most : highest entries ≤ learnt.count
 
 -- So it is in a world.
 abbrev pub IsLedger : WorldView → Type 0

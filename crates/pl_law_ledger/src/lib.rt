@@ -2,14 +2,14 @@
 //! is at the beginning, and each step keeps it, over the definitions of the world and of the rules alone.
 //!
 //! In every run the journal says of addresses what the switches granted and the fabric manager registered,
-//! and no more numbers of pods are given than there are pods.
+//! and each number of a pod that is given is below how many pods there are.
 #![tactic(auto)]
 
 pub use ledger_laws::{
     an_address_in_use_is_the_last_granted, each_step_keeps_the_ledger, the_ledger_begins_empty,
 };
 pub use run_laws::{
-    no_more_numbers_are_given_than_there_are_pods,
+    each_number_given_is_below_the_number_of_pods, each_trap_leads_to_a_newer_address_in_every_run,
     only_edge_switches_with_position_0_ask_in_every_run,
     pods_and_positions_are_of_one_byte_in_every_run,
     the_journal_says_what_was_granted_in_every_run, what_is_known_of_places_is_known_later,

@@ -1,5 +1,5 @@
-ghost use Rattle.std.specs.Prelude.{◌≡◌, ◌≤◌, ℕ, None, length};
-ghost use Rattle.pl_node.specs.ManagerViews.{pods_given};
+ghost use Rattle.std.specs.Prelude.{◌≡◌, ◌<◌, ℕ, None};
+ghost use Rattle.std.specs.List.{AllByRecursion};
 ghost use Rattle.pl_manager_rule.specs.ManagerRule.{manager_rule};
 ghost use Rattle.pl_switch_rule.specs.SwitchRule.{Loose};
 ghost use Rattle.pl_world.specs.declared.event.Event.{Event};
@@ -12,6 +12,7 @@ ghost use Rattle.pl_law_places.specs.Told.{IsTrueOf};
 ghost use Rattle.pl_law_invariant.specs.ControlInvariant.{ControlInvariant};
 ghost use Rattle.pl_law_ledger.specs.Ledgers.{AreInBounds, IsLedger};
 ghost use Rattle.pl_law_ledger.specs.Askers.{ZerosAsk};
+ghost use Rattle.pl_law_ledger.specs.Leading.{AreLed};
 
 use pl_node::HostLogic;
 
@@ -21,14 +22,21 @@ pub fn the_journal_says_what_was_granted_in_every_run<H: HostLogic>()
     ensures { InEveryRun Loose manager_rule H.rule IsLedger }
 {}
 
-/// In every run only edge switches with position 0 ask for the number of a pod.
+/// In every run a trap that stands leads to a newer address of the same host, by the numbers that the journal says;
+/// so does one that is still on its way to its edge switch. Whether the fabric manager knows either address
+/// makes no difference to that.
+pub fn each_trap_leads_to_a_newer_address_in_every_run<H: HostLogic>()
+    ensures { InEveryRun Loose manager_rule H.rule AreLed }
+{}
+
+/// In every run only edge switches with position 0 ask for the number of a pod, and only pods that switches know are told.
 pub fn only_edge_switches_with_position_0_ask_in_every_run<H: HostLogic>()
     ensures { InEveryRun Loose manager_rule H.rule (λ new. ZerosAsk (control_plane new)) }
 {}
 
-/// So no more numbers are given than there are pods.
-pub fn no_more_numbers_are_given_than_there_are_pods<H: HostLogic>()
-    ensures { InEveryRun Loose manager_rule H.rule (λ new. length (pods_given new.manager.askers) ≤ new.plan.k) }
+/// So each number that is given is below how many pods there are.
+pub fn each_number_given_is_below_the_number_of_pods<H: HostLogic>()
+    ensures { InEveryRun Loose manager_rule H.rule (λ new. AllByRecursion (λ g. g.pod < new.plan.k) new.manager.pods) }
 {}
 
 /// And the pods and positions of placed edge switches are numbers of one byte.

@@ -4,7 +4,7 @@ use Rattle.std.specs.List.{AllByRecursion}
 use Rattle.std.proofs.lemmas.List.{append_assoc, reverse-append}
 use Rattle.pl_wiring.specs.declared.link.Link.{Link}
 use Rattle.pl_journal.specs.declared.entry.Entry.{Entry}
-use Rattle.pl_journal.specs.declared.entry.Entry.TheVariants.{Arrived, Copied, Crossed, Dropped, Freed, Granted, Line, LinkDown, LinkUp, Made, Moved, Placed, Redirected, Registered, Sent, Settled, Skipped, Taken, Unsettled}
+use Rattle.pl_journal.specs.declared.entry.Entry.TheVariants.{Arrived, Copied, Crossed, Dropped, Freed, Granted, Line, LinkDown, LinkUp, Made, Moved, Placed, Redirected, Registered, Restarted, Sent, Settled, Skipped, Taken, Unsettled}
 use Rattle.pl_journal.specs.Lossy.{has_joined}
 use Rattle.pl_node.specs.declared.messages.ToManager.{ToManager}
 use Rattle.pl_node.specs.ManagerDuties.{ManagerRule}
@@ -66,6 +66,7 @@ joined_by_one (Placed s place) past h n unsent = refl
 joined_by_one (LinkDown x y) past h n unsent = refl
 joined_by_one (LinkUp x y) past h n unsent = refl
 joined_by_one (Moved g s port) past h n unsent = refl
+joined_by_one (Restarted m) past h n unsent = refl
 joined_by_one (Settled m) past h n unsent = refl
 joined_by_one (Unsettled m) past h n unsent = refl
 

@@ -8,7 +8,7 @@ use Rattle.pl_wiring.specs.Plan.{Plan}
 use Rattle.pl_layouts.specs.Frames.{packet_in}
 use Rattle.pl_layouts.specs.Memberships.{flood, group_of, is_group}
 use Rattle.pl_journal.specs.declared.entry.Entry.{Entry}
-use Rattle.pl_journal.specs.declared.entry.Entry.TheVariants.{Arrived, Copied, Crossed, Dropped, Freed, Granted, Line, LinkDown, LinkUp, Made, Moved, Placed, Redirected, Registered, Sent, Settled, Skipped, Taken, Unsettled}
+use Rattle.pl_journal.specs.declared.entry.Entry.TheVariants.{Arrived, Copied, Crossed, Dropped, Freed, Granted, Line, LinkDown, LinkUp, Made, Moved, Placed, Redirected, Registered, Restarted, Sent, Settled, Skipped, Taken, Unsettled}
 use Rattle.pl_journal.specs.Lossy.{has_joined, is_member}
 use Rattle.pl_node.specs.declared.reception.Reception.TheVariants.{Kept, NotMember}
 use Rattle.pl_node.specs.Accounting.{AccountsForFrames}
@@ -108,6 +108,7 @@ mark_unsent (Freed pmac) is = absurd is
 mark_unsent (LinkDown x y) is = absurd is
 mark_unsent (LinkUp x y) is = absurd is
 mark_unsent (Moved host edge port) is = absurd is
+mark_unsent (Restarted number) is = absurd is
 
 module _ (switch : SwitchRule) (manager : ManagerRule) (host : HostRule) (joins : HostsJoinBySending host) where
   pub step_joined : (old : WorldView) (event : Event) (new : WorldView) → IsCounted old → WorldStep switch manager host old event new → HaveJoined old → HaveJoined new

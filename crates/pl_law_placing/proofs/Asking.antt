@@ -155,7 +155,7 @@ answered : (before : ManagerView) (s : SwitchId) → (n : ℕ) × (rest : List M
 unfolding manager_hears
 answered before s =
     let after = view_after before s tell.PodWanted in
-    (unwrap_or (pod_given after.askers s) 0, avoid_acts before.told after.told ++ tree_acts before after, refl)
+    (unwrap_or (pod_given after.pods s) 0, avoid_acts before.told after.told ++ tree_acts before after, refl)
 
 module _ (f : ControlPlane) (is : IsPlan f.plan) where
   to_itself : (s : ℕ) (id : SwitchId) → slice_get f.plan.ids s ≡ Some id → is_to (position (same_switch id) f.plan.ids) s ≡ true

@@ -5,4 +5,4 @@ pub use Rattle.pl_law_placing.proofs.Levels.{seen_later}
 pub use Rattle.pl_law_placing.proofs.PlacingInRuns.{run_places}
 pub use Rattle.pl_law_placing.proofs.Seeing.{Seen, step_seen, turned_grown}
 pub use Rattle.pl_law_placing.proofs.Seeing.Seen.{Gone, Hears, Quiet, Ticks}
-pub use Rattle.pl_law_placing.proofs.Wishes.{IsWishWord, told_wishes}
+pub use Rattle.pl_law_placing.proofs.Wishes.{IsOwnWord, told_own}

@@ -8,7 +8,8 @@ use Rattle.pl_layouts.specs.Equality.{same_switch}
 use Rattle.pl_wiring.specs.Plan.{Plan}
 use Rattle.pl_node.specs.declared.messages.ToManager.{ToManager}
 use Rattle.pl_node.specs.declared.messages.ToManager.TheVariants as tell
-use Rattle.pl_node.specs.ManagerViews.{ManagerView, pods_given}
+use Rattle.pl_node.specs.declared.pod_given.PodGiven.{PodGiven}
+use Rattle.pl_node.specs.ManagerViews.{ManagerView, first_free}
 use Rattle.pl_node.specs.SwitchInputs.{SwitchInput}
 use Rattle.pl_node.specs.SwitchInputs.SwitchInput.{Comes, Says, Tick}
 use Rattle.pl_node.specs.SwitchViews.{SwitchView}
@@ -30,9 +31,14 @@ module _ (f g : ControlPlane) (plan : g.plan ≡ f.plan) (later : (s : ℕ) → 
     position = (later is.switch).position 0 is.position;
   }
 
-  heard_same : g.manager ≡ f.manager → AllByRecursion (HasFirstPosition g) g.manager.askers
-  heard_same same =
-      subst (λ (v : ManagerView). AllByRecursion (HasFirstPosition g) v.askers) (sym same) (all_weaker (HasFirstPosition f) (HasFirstPosition g) first_later f.manager.askers first.heard)
+  -- those whom the manager heard
+  heard_later : AllByRecursion (λ (given : PodGiven). HasFirstPosition g given.switch) f.manager.pods
+  heard_later =
+      all_weaker (λ (given : PodGiven). HasFirstPosition f given.switch) (λ (given : PodGiven). HasFirstPosition g given.switch) (λ given is. first_later given.switch is)
+      f.manager.pods first.heard
+
+  heard_same : g.manager ≡ f.manager → AllByRecursion (λ (given : PodGiven). HasFirstPosition g given.switch) g.manager.pods
+  heard_same same = subst (λ (v : ManagerView). AllByRecursion (λ (given : PodGiven). HasFirstPosition g given.switch) v.pods) (sym same) heard_later
 
   waits_later : (s : ℕ) → list_any is_wish (f.reports s) ≡ true → (g.view s).place.position ≡ Some 0
   waits_later s waits = (later s).position 0 (first.waiting s waits)
@@ -61,7 +67,7 @@ module _ (f g : ControlPlane) (plan : g.plan ≡ f.plan) (later : (s : ℕ) → 
   unfolding manager_hears
   manager_first m s id told named taken turns = record {
     waiting = λ t waits. waits_later t (before t (ap (list_any is_wish) (sym (turns.reports t)) ∙ waits));
-    heard = subst (λ (v : ManagerView). AllByRecursion (HasFirstPosition g) v.askers) (sym (turns.manager ∙ turns.ruled.0 ∙ ap (λ v. view_after v id told) taken.left.manager))
+    heard = subst (λ (v : ManagerView). AllByRecursion (λ (given : PodGiven). HasFirstPosition g given.switch) v.pods) (sym (turns.manager ∙ turns.ruled.0 ∙ ap (λ v. view_after v id told) taken.left.manager))
         (asks told taken.first);
   }
     where
@@ -75,24 +81,23 @@ module _ (f g : ControlPlane) (plan : g.plan ≡ f.plan) (later : (s : ℕ) → 
           behind true is = refl
           behind false is = is
 
-      all : AllByRecursion (HasFirstPosition g) f.manager.askers
-      all = all_weaker (HasFirstPosition f) (HasFirstPosition g) first_later f.manager.askers first.heard
-
-      asks : (told : ToManager) → f.reports s ≡ told ∷ m.reports s → AllByRecursion (HasFirstPosition g) (view_after f.manager id told).askers
-      asks tell.PodWanted front = by (list_any (λ g. same_switch g.switch id) (pods_given f.manager.askers))
+      asks : (told : ToManager) → f.reports s ≡ told ∷ m.reports s →
+          AllByRecursion (λ (given : PodGiven). HasFirstPosition g given.switch) (view_after f.manager id told).pods
+      asks tell.PodWanted front = by (list_any (λ (given : PodGiven). same_switch given.switch id) f.manager.pods)
         where
           here : HasFirstPosition g id
           here = first_later id (record { switch = s; named = named; position = first.waiting s (ap (list_any is_wish) front) })
 
-          by : (b : Bool) → AllByRecursion (HasFirstPosition g) (cond b f.manager.askers (id ∷ f.manager.askers))
-          by true = all
-          by false = (here, all)
-      asks (tell.Place place) front = all
-      asks (tell.Link u usable) front = all
-      asks (tell.Learned a b c) front = all
-      asks (tell.Aged a b) front = all
-      asks (tell.Query a b c) front = all
-      asks (tell.Members group any) front = all
+          by : (b : Bool) → let new : PodGiven = record { switch = id; pod = first_free f.manager.told f.manager.pods } in
+              AllByRecursion (λ (given : PodGiven). HasFirstPosition g given.switch) (cond b f.manager.pods (new ∷ f.manager.pods))
+          by true = heard_later
+          by false = (here, heard_later)
+      asks (tell.Place place) front = heard_later
+      asks (tell.Link u usable) front = heard_later
+      asks (tell.Learned a b c) front = heard_later
+      asks (tell.Aged a b) front = heard_later
+      asks (tell.Query a b c) front = heard_later
+      asks (tell.Members group any) front = heard_later
 
   pub step_first : (step : PlaneStep Loose manager_rule f g) → LosesNoWord Loose manager_rule f g step → OnlyFirstAsk g
   step_first (Left left) kept = record {

@@ -12,7 +12,7 @@ use Rattle.pl_node.specs.SwitchInputs.{SwitchInput, SwitchRule}
 use Rattle.pl_node.specs.SwitchInputs.SwitchInput.{Comes, Says, Tick}
 use Rattle.pl_journal.specs.declared.cause.Skip.{Skip}
 use Rattle.pl_journal.specs.declared.entry.Entry.{Entry}
-use Rattle.pl_journal.specs.declared.entry.Entry.TheVariants.{Arrived, Copied, Crossed, Dropped, Freed, Granted, Line, LinkDown, LinkUp, Made, Moved, Placed, Redirected, Registered, Sent, Settled, Skipped, Taken, Unsettled}
+use Rattle.pl_journal.specs.declared.entry.Entry.TheVariants.{Arrived, Copied, Crossed, Dropped, Freed, Granted, Line, LinkDown, LinkUp, Made, Moved, Placed, Redirected, Registered, Restarted, Sent, Settled, Skipped, Taken, Unsettled}
 use Rattle.pl_journal.specs.Flights.{is_empty, sender, trail}
 use Rattle.pl_queues.specs.Queues.{items_at}
 use Rattle.pl_world.specs.declared.event.Event.{Event}
@@ -211,6 +211,7 @@ still_mark (Placed s place) is = absurd is
 still_mark (LinkDown a b) is = absurd is
 still_mark (LinkUp a b) is = absurd is
 still_mark (Moved h s port) is = absurd is
+still_mark (Restarted number) is = absurd is
 
 pub marked_goes : (w : WorldView) (e : Entry) → IsMark e → HaveCrossed (reverse w.journal) w.out w.begun → GoesIn (reverse w.journal) (λ s. ⊥) (noted w e)
 marked_goes w e is crossed = goes_entry (reverse w.journal) (λ s. ⊥) w e (still_mark e is) (record { crossed = crossed; received = λ s h. inl h })

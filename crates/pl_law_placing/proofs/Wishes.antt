@@ -1,5 +1,5 @@
--- A switch tells its wish for a pod only where it has position 0.
-use Rattle.std.proofs.Common.{◌≡◌, true, List, [], ◌∷◌, Some}
+-- A switch tells its wish for a pod only where it has position 0, and of pods only its own.
+use Rattle.std.proofs.Common.{◌≡◌, ℕ, true, List, [], ◌∷◌, Some}
 use Rattle.std.specs.List.{AllByRecursion, list_any}
 use Rattle.std.proofs.lemmas.Bool.{false≢true}
 use Rattle.pl_layouts.specs.declared.place.Place.{Place}
@@ -17,13 +17,14 @@ use Rattle.pl_law_control_plane.specs.ControlPlanes.{tells}
 use Rattle.pl_law_control_plane.proofs.Exports.{told_all}
 use Rattle.pl_law_placing.specs.Asking.{is_wish}
 
--- a switch at this place tells its wish for a pod only with position 0
-abbrev pub IsWishWord : Place → ToManager → Type 0
-IsWishWord place PodWanted = place.position ≡ Some 0
-IsWishWord place told = Unit {0}
+-- a switch at this place tells its wish for a pod only with position 0, and no pod but its own
+abbrev pub IsOwnWord : Place → ToManager → Type 0
+IsOwnWord place PodWanted = place.position ≡ Some 0
+IsOwnWord place (TellPlace told) = (n : ℕ) → told.pod ≡ Some n → place.pod ≡ Some n
+IsOwnWord place told = Unit {0}
 
 abbrev MayAsk : Place → Act → Type 0
-MayAsk place (Tell told) = IsWishWord place told
+MayAsk place (Tell told) = IsOwnWord place told
 MayAsk place act = Unit {0}
 
 hosts_ask : (place : Place) → HostActs (MayAsk place)
@@ -36,16 +37,16 @@ hosts_ask place = record {
 }
 
 change_asks : (place : Place) → ChangeActs place (MayAsk place)
-change_asks place = record { placed = tt; linked = λ neighbour usable. tt; wanted = λ position. position }
+change_asks place = record { placed = λ n is. is; linked = λ neighbour usable. tt; wanted = λ position. position }
 
-pub told_wishes : (choose : Choice) (v : SwitchView) (input : SwitchInput) →
-    AllByRecursion (IsWishWord (switch_step choose v input).view.place) (tells (switch_step choose v input).acts)
-told_wishes choose v input =
+pub told_own : (choose : Choice) (v : SwitchView) (input : SwitchInput) →
+    AllByRecursion (IsOwnWord (switch_step choose v input).view.place) (tells (switch_step choose v input).acts)
+told_own choose v input =
     let s : SwitchStep = switch_step choose v input in
     let place : Place = s.view.place in
     told_all (MayAsk place) s.acts (step_acts (MayAsk place) choose (hosts_ask place) (λ group any. tt) (λ port frame. tt) v input (change_asks place))
 
-asks_at_first : (place : Place) (words : List ToManager) → AllByRecursion (IsWishWord place) words → list_any is_wish words ≡ true → place.position ≡ Some 0
+asks_at_first : (place : Place) (words : List ToManager) → AllByRecursion (IsOwnWord place) words → list_any is_wish words ≡ true → place.position ≡ Some 0
 asks_at_first place [] all wish = absurd (false≢true wish)
 asks_at_first place (PodWanted ∷ words) all wish = all.0
 asks_at_first place (TellPlace told ∷ words) all wish = asks_at_first place words all.1 wish
@@ -60,4 +61,4 @@ IsAsked s = list_any is_wish (tells s.acts) ≡ true → s.view.place.position �
 
 pub step_wish : (choose : Choice) (v : SwitchView) (input : SwitchInput) → IsAsked (switch_step choose v input)
 step_wish choose v input =
-    let s : SwitchStep = switch_step choose v input in asks_at_first s.view.place (tells s.acts) (told_wishes choose v input)
+    let s : SwitchStep = switch_step choose v input in asks_at_first s.view.place (tells s.acts) (told_own choose v input)

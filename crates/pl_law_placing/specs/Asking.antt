@@ -30,4 +30,4 @@ pub record HasFirstPosition (f : ControlPlane) (id : SwitchId) : Type 0 where
 -- only switches with position 0 ask: those whose wish waits, and those whom the manager heard
 pub record OnlyFirstAsk (f : ControlPlane) : Type 0 where
   pub waiting : (s : ℕ) → list_any is_wish (f.reports s) ≡ true → (f.view s).place.position ≡ Some 0
-  pub heard : AllByRecursion (HasFirstPosition f) f.manager.askers
+  pub heard : AllByRecursion (λ g. HasFirstPosition f g.switch) f.manager.pods

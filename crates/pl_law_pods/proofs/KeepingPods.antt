@@ -36,37 +36,38 @@ use Rattle.pl_law_places.specs.Told.{IsGoodMessage, has_heard}
 use Rattle.pl_law_votes.specs.Voting.{FixedAreApart}
 use Rattle.pl_law_votes.proofs.Exports.{aside_data, aside_manager}
 use Rattle.pl_law_pods.specs.Pods.{ArePodsGiven, AreGivenBy, IsPodGiven, id_of}
-use Rattle.pl_law_pods.proofs.Managing.{askers_then, due_acts, due_orders, given_then, order_then}
+use Rattle.pl_law_pods.proofs.Managing.{due_acts, due_orders, given_then, order_then}
+use Rattle.pl_law_pods.proofs.NumbersGiven.{gives_then}
 use Rattle.pl_law_pods.proofs.StepsKeepPods.{Knows, KnowsBy, TellsPod, edge_label, knows_aside, knows_heard, knows_pod, knows_same, level_zero, never_told}
 use Rattle.pl_law_pods.proofs.StepsKeepPods.KnowsBy.{Became, Kept, WasTold}
 
 -- items leave queues
-left_given : (plan : Plan) (askers : List SwitchId) (f g : ControlPlane) → ((s : ℕ) → g.view s ≡ f.view s) → ((s : ℕ) → LeftOver (f.orders s) (g.orders s)) →
-    AreGivenBy plan askers f.view f.orders → AreGivenBy plan askers g.view g.orders
-left_given plan askers f g same left given = record {
-  asked = given.asked;
+left_given : (plan : Plan) (manager : ManagerView) (f g : ControlPlane) → ((s : ℕ) → g.view s ≡ f.view s) → ((s : ℕ) → LeftOver (f.orders s) (g.orders s)) →
+    AreGivenBy plan manager f.view f.orders → AreGivenBy plan manager g.view g.orders
+left_given plan manager f g same left given = record {
+  gives = given.gives;
   said = λ s.
       let queue = left s in
-      all_behind (IsPodGiven askers (id_of plan s)) queue.gone (g.orders s) (subst (AllByRecursion (IsPodGiven askers (id_of plan s))) queue.split (given.said s));
+      all_behind (IsPodGiven manager.pods (id_of plan s)) queue.gone (g.orders s) (subst (AllByRecursion (IsPodGiven manager.pods (id_of plan s))) queue.split (given.said s));
   known = λ s n position pod.
       given.known s n (ap (λ (v : SwitchView). v.place.position) (sym (same s)) ∙ position) (ap (λ (v : SwitchView). v.place.pod) (sym (same s)) ∙ pod);
 }
 
 module _ (f g : ControlPlane) (is : IsPlan f.plan) (placed : ArePlaced f.plan f) (apart : FixedAreApart f.plan f.view) (apart_then : FixedAreApart f.plan g.view) where
   -- a switch acts, in a control plane whose switches know what they knew
-  acted_given : (askers : List SwitchId) (m : ControlPlane) (s : ℕ) (after : SwitchView) (failed : ℕ → Bool) (acts : List Act) (told : ℕ → Type 0) →
-      ((t : ℕ) → m.view t ≡ f.view t) → AreGivenBy f.plan askers f.view f.orders → AreGivenBy f.plan askers m.view m.orders →
+  acted_given : (manager : ManagerView) (m : ControlPlane) (s : ℕ) (after : SwitchView) (failed : ℕ → Bool) (acts : List Act) (told : ℕ → Type 0) →
+      ((t : ℕ) → m.view t ≡ f.view t) → AreGivenBy f.plan manager f.view f.orders → AreGivenBy f.plan manager m.view m.orders →
       IsActed m s after failed acts g → Knows (m.view s).place after.place told →
-      ((n : ℕ) → (f.view s).place.position ≡ Some 0 → (f.view s).place.pod ≡ None → told n → pod_given askers (id_of f.plan s) ≡ Some n) →
-      AreGivenBy f.plan askers g.view g.orders
-  acted_given askers m s after failed acts told same given given_m acted knows due = record {
-    asked = given.asked;
-    said = λ t. subst (AllByRecursion (IsPodGiven askers (id_of f.plan t))) (sym (acted.orders t)) (given_m.said t);
+      ((n : ℕ) → (f.view s).place.position ≡ Some 0 → (f.view s).place.pod ≡ None → told n → pod_given manager.pods (id_of f.plan s) ≡ Some n) →
+      AreGivenBy f.plan manager g.view g.orders
+  acted_given manager m s after failed acts told same given given_m acted knows due = record {
+    gives = given.gives;
+    said = λ t. subst (AllByRecursion (IsPodGiven manager.pods (id_of f.plan t))) (sym (acted.orders t)) (given_m.said t);
     known = λ t n position pod. elim (cases_eq t s) [
       | inl here ↦
           let position_s = ap (λ (v : SwitchView). v.place.position) (sym acted.here) ∙ ap (λ x. (g.view x).place.position) (sym here) ∙ position in
           let pod_s = ap (λ (v : SwitchView). v.place.pod) (sym acted.here) ∙ ap (λ x. (g.view x).place.pod) (sym here) ∙ pod in
-          subst (λ x. pod_given askers (id_of f.plan x) ≡ Some n) (sym here)
+          subst (λ x. pod_given manager.pods (id_of f.plan x) ≡ Some n) (sym here)
           (by n (ap (λ x. (g.view x).place.position) (sym here) ∙ position)
           (subst (λ (v : SwitchView). KnowsBy v.place told n) (same s) (knows n position_s pod_s)))
       | inr other ↦
@@ -89,48 +90,48 @@ module _ (f g : ControlPlane) (is : IsPlan f.plan) (placed : ArePlaced f.plan f)
           let there = ap (λ (v : SwitchView). v.place.position) (acted.others z unlike ∙ same z) ∙ lowest.1.position in
           unlike (sym (apart_then edge.0 edge.1 lowest.1.i 0 s z edge.2 label position there))
 
-      by : (n : ℕ) → (g.view s).place.position ≡ Some 0 → KnowsBy (f.view s).place told n → pod_given askers (id_of f.plan s) ≡ Some n
+      by : (n : ℕ) → (g.view s).place.position ≡ Some 0 → KnowsBy (f.view s).place told n → pod_given manager.pods (id_of f.plan s) ≡ Some n
       by n position (Kept at pod) = given.known s n at pod
       by n position (WasTold at none says) = due n at none says
       by n position (Became level none pod) = absurd (became n position level none pod)
 
   -- a step in which no pod is told
-  turned_given : (askers : List SwitchId) (m : ControlPlane) (s : ℕ) (input : SwitchInput) → ((t : ℕ) → m.view t ≡ f.view t) →
-      AreGivenBy f.plan askers f.view f.orders → AreGivenBy f.plan askers m.view m.orders → (turns : SwitchTurns Loose m s input g) →
-      Knows (m.view s).place (switch_step turns.ruled.choose (m.view s) input).view.place (λ n. ⊥) → AreGivenBy f.plan askers g.view g.orders
-  turned_given askers m s input same given given_m turns knows =
-      acted_given askers m s turns.after turns.failed turns.acts (λ n. ⊥) same given given_m turns.acted
+  turned_given : (manager : ManagerView) (m : ControlPlane) (s : ℕ) (input : SwitchInput) → ((t : ℕ) → m.view t ≡ f.view t) →
+      AreGivenBy f.plan manager f.view f.orders → AreGivenBy f.plan manager m.view m.orders → (turns : SwitchTurns Loose m s input g) →
+      Knows (m.view s).place (switch_step turns.ruled.choose (m.view s) input).view.place (λ n. ⊥) → AreGivenBy f.plan manager g.view g.orders
+  turned_given manager m s input same given given_m turns knows =
+      acted_given manager m s turns.after turns.failed turns.acts (λ n. ⊥) same given given_m turns.acted
       (subst (λ (v : SwitchView). Knows (m.view s).place v.place (λ n. ⊥)) (sym turns.ruled.steps.view) knows) (λ n at none told. absurd told)
 
   own_of : (m : ControlPlane) (s : ℕ) → m.view s ≡ f.view s → (x : ℕ) → (m.view s).place.position ≡ Some x → (m.view s).place.level ≡ Some 0
   own_of m s same x position =
       ap (λ (v : SwitchView). v.place.level) same ∙ level_zero f is placed apart s x (ap (λ (v : SwitchView). v.place.position) (sym same) ∙ position)
 
-  data_given : (askers : List SwitchId) (m : ControlPlane) (s port : ℕ) (frame : List ℕ) → ((t : ℕ) → m.view t ≡ f.view t) →
-      AreGivenBy f.plan askers f.view f.orders → AreGivenBy f.plan askers m.view m.orders → is_control frame ≡ false → SwitchTurns Loose m s (Comes port frame) g →
-      AreGivenBy f.plan askers g.view g.orders
-  data_given askers m s port frame same given given_m data_frame turns =
+  data_given : (manager : ManagerView) (m : ControlPlane) (s port : ℕ) (frame : List ℕ) → ((t : ℕ) → m.view t ≡ f.view t) →
+      AreGivenBy f.plan manager f.view f.orders → AreGivenBy f.plan manager m.view m.orders → is_control frame ≡ false → SwitchTurns Loose m s (Comes port frame) g →
+      AreGivenBy f.plan manager g.view g.orders
+  data_given manager m s port frame same given given_m data_frame turns =
       let view = m.view s in
       let comes = data_comes turns.ruled.choose view port frame in
       let step : switch_step turns.ruled.choose view (Comes port frame) ≡ comes =
       ap (λ b. if◌then◌else◌ {A = SwitchStep} b (control_comes view port frame) comes) data_frame in
-      turned_given askers m s (Comes port frame) same given given_m turns
+      turned_given manager m s (Comes port frame) same given given_m turns
       (subst (λ (st : SwitchStep). Knows view.place st.view.place (λ n. ⊥)) (sym step)
       (knows_aside view (own_of m s (same s)) (λ n. ⊥) comes (aside_data turns.ruled.choose view port frame)))
 
-  heard_given : (askers : List SwitchId) (m : ControlPlane) (t q s port : ℕ) (frame : List ℕ) → AreGivenBy f.plan askers f.view f.orders →
+  heard_given : (manager : ManagerView) (m : ControlPlane) (t q s port : ℕ) (frame : List ℕ) → AreGivenBy f.plan manager f.view f.orders →
       AreAdjacent f.plan t q s port → is_control frame ≡ true → MessageIsTaken f t q (messages_of (message_in frame)) m → SwitchTurns Loose m s (Comes port frame) g →
-      AreGivenBy f.plan askers g.view g.orders
+      AreGivenBy f.plan manager g.view g.orders
   unfolding message_in
-  heard_given askers m t q s port frame given adjacent control taken turns =
+  heard_given manager m t q s port frame given adjacent control taken turns =
       let view = m.view s in
       let read = control_in (payload_of frame) in
       let st = if◌then◌else◌ {A = SwitchStep} (port_of view port).host (rests view) (hears_control view port read) in
       let step : switch_step turns.ruled.choose view (Comes port frame) ≡ st =
       ap (λ b. if◌then◌else◌ {A = SwitchStep} b (control_comes view port frame) (data_comes turns.ruled.choose view port frame)) control in
       let queued = (placed.links t q s port adjacent).queued in
-      acted_given askers m s turns.after turns.failed turns.acts (TellsPod read) taken.left.view given
-      (left_given f.plan askers f m taken.left.view taken.left.orders given) turns.acted
+      acted_given manager m s turns.after turns.failed turns.acts (TellsPod read) taken.left.view given
+      (left_given f.plan manager f m taken.left.view taken.left.orders given) turns.acted
       (subst (λ (v : SwitchView). Knows view.place v.place (TellsPod read)) (sym (turns.ruled.steps.view ∙ ap (λ (x : SwitchStep). x.view) step))
       (knows_heard view (own_of m s (taken.left.view s)) port read (port_of view port).host))
       (λ n at none told. absurd (never n at none read (subst (AllByRecursion (IsGoodMessage (f.view t).id (f.view t).place (has_heard (f.view t) q))) taken.first_said queued) told))
@@ -144,24 +145,24 @@ module _ (f g : ControlPlane) (is : IsPlan f.plan) (placed : ArePlaced f.plan f)
       never n at none (Ok (Vote id vote)) good told = told
       never n at none (Err e) good told = told
 
-  ordered_given : (askers : List SwitchId) (m : ControlPlane) (s : ℕ) (says : ToSwitch) → AreGivenBy f.plan askers f.view f.orders → IsOrderTaken f s says m →
-      SwitchTurns Loose m s (Says says) g → AreGivenBy f.plan askers g.view g.orders
-  ordered_given askers m s says given taken turns = by says taken.first turns
+  ordered_given : (manager : ManagerView) (m : ControlPlane) (s : ℕ) (says : ToSwitch) → AreGivenBy f.plan manager f.view f.orders → IsOrderTaken f s says m →
+      SwitchTurns Loose m s (Says says) g → AreGivenBy f.plan manager g.view g.orders
+  ordered_given manager m s says given taken turns = by says taken.first turns
     where
-      given_m : AreGivenBy f.plan askers m.view m.orders
-      given_m = left_given f.plan askers f m taken.left.view taken.left.orders given
+      given_m : AreGivenBy f.plan manager m.view m.orders
+      given_m = left_given f.plan manager f m taken.left.view taken.left.orders given
 
-      others : (says : ToSwitch) → ((pod : ℕ) → says ≡ say.Pod pod → ⊥) → SwitchTurns Loose m s (Says says) g → AreGivenBy f.plan askers g.view g.orders
+      others : (says : ToSwitch) → ((pod : ℕ) → says ≡ say.Pod pod → ⊥) → SwitchTurns Loose m s (Says says) g → AreGivenBy f.plan manager g.view g.orders
       others says other turns =
-          turned_given askers m s (Says says) taken.left.view given (left_given f.plan askers f m taken.left.view taken.left.orders given) turns
+          turned_given manager m s (Says says) taken.left.view given (left_given f.plan manager f m taken.left.view taken.left.orders given) turns
           (knows_aside (m.view s) (own_of m s (taken.left.view s)) (λ n. ⊥) (switch_step turns.ruled.choose (m.view s) (Says says))
           (aside_manager turns.ruled.choose (m.view s) says other))
 
-      by : (says : ToSwitch) → f.orders s ≡ says ∷ m.orders s → SwitchTurns Loose m s (Says says) g → AreGivenBy f.plan askers g.view g.orders
+      by : (says : ToSwitch) → f.orders s ≡ says ∷ m.orders s → SwitchTurns Loose m s (Says says) g → AreGivenBy f.plan manager g.view g.orders
       by (say.Pod pod) first turns =
-          let due = (subst (AllByRecursion (IsPodGiven askers (id_of f.plan s))) first (given.said s)).0 in
-          acted_given askers m s turns.after turns.failed turns.acts (λ n. pod ≡ n) taken.left.view given
-          (left_given f.plan askers f m taken.left.view taken.left.orders given) turns.acted
+          let due = (subst (AllByRecursion (IsPodGiven manager.pods (id_of f.plan s))) first (given.said s)).0 in
+          acted_given manager m s turns.after turns.failed turns.acts (λ n. pod ≡ n) taken.left.view given
+          (left_given f.plan manager f m taken.left.view taken.left.orders given) turns.acted
           (subst (λ (v : SwitchView). Knows (m.view s).place v.place (λ n. pod ≡ n)) (sym turns.ruled.steps.view)
           (knows_pod (m.view s) (own_of m s (taken.left.view s)) pod)) (λ n at none same. due ∙ ap Some same)
       by (say.Avoid list) first turns = others (say.Avoid list) (λ pod same. absurd (cc same)) turns
@@ -172,25 +173,25 @@ module _ (f g : ControlPlane) (is : IsPlan f.plan) (placed : ArePlaced f.plan f)
       by (say.Release a) first turns = others (say.Release a) (λ pod same. absurd (cc same)) turns
 
 -- the manager hears a switch
-managed_given : (f m g : ControlPlane) (s : ℕ) (id : SwitchId) (told : ToManager) → ArePodsGiven f → slice_get f.plan.ids s ≡ Some id → IsReportTaken f s told m →
+managed_given : (f m g : ControlPlane) (s : ℕ) (id : SwitchId) (told : ToManager) → IsPlan f.plan → ArePodsGiven f → slice_get f.plan.ids s ≡ Some id → IsReportTaken f s told m →
     ManagerTurns manager_rule m id told g → ArePodsGiven g
 unfolding manager_hears
-managed_given f m g s id told given named taken turns =
+managed_given f m g s id told is given named taken turns =
     let same_plan = taken.left.plan in
-    let before = subst (λ (v : ManagerView). AreGivenBy f.plan v.askers m.view m.orders) (sym taken.left.manager)
-    (left_given f.plan f.manager.askers f m taken.left.view taken.left.orders given) in
+    let before = subst (λ (v : ManagerView). AreGivenBy f.plan v m.view m.orders) (sym taken.left.manager)
+    (left_given f.plan f.manager f m taken.left.view taken.left.orders given) in
     let after = view_after m.manager id told in
     let here : Contains f.plan.ids id = (s, slice_get_within f.plan.ids s id named, get_or_from_slice_get f.plan.ids s id id named) in
     let is_after = turns.manager ∙ turns.ruled.0 in
-    subst₂ (λ (p : Plan) (v : ManagerView). AreGivenBy p v.askers g.view g.orders) (sym (turns.plan ∙ same_plan)) (sym is_after) (record {
-      asked = askers_then m.manager id told (Contains f.plan.ids) here before.asked;
+    subst₂ (λ (p : Plan) (v : ManagerView). AreGivenBy p v g.view g.orders) (sym (turns.plan ∙ same_plan)) (sym is_after) (record {
+      gives = gives_then f.plan m.manager is before.gives id told here;
       said = λ t.
           let says = subst₂ (λ (p : Plan) acts. g.orders t ≡ m.orders t ++ ordered p t acts) same_plan turns.ruled.1 (turns.orders t) in
-          subst (AllByRecursion (IsPodGiven after.askers (id_of f.plan t))) (sym says)
-          (all_append (IsPodGiven after.askers (id_of f.plan t)) (m.orders t) (ordered f.plan t (manager_hears m.manager id told).acts)
-          (all_weaker (IsPodGiven m.manager.askers (id_of f.plan t)) (IsPodGiven after.askers (id_of f.plan t))
+          subst (AllByRecursion (IsPodGiven after.pods (id_of f.plan t))) (sym says)
+          (all_append (IsPodGiven after.pods (id_of f.plan t)) (m.orders t) (ordered f.plan t (manager_hears m.manager id told).acts)
+          (all_weaker (IsPodGiven m.manager.pods (id_of f.plan t)) (IsPodGiven after.pods (id_of f.plan t))
           (λ order is. order_then m.manager id (id_of f.plan t) told order is) (m.orders t) (before.said t))
-          (due_orders f.plan after.askers t (manager_hears m.manager id told).acts (due_acts m.manager id told)));
+          (due_orders f.plan after.pods t (manager_hears m.manager id told).acts (due_acts m.manager id told)));
       known = λ t n position pod.
           given_then m.manager id (id_of f.plan t) told n
           (before.known t n (ap (λ (v : SwitchView). v.place.position) (sym (turns.view t)) ∙ position)
@@ -198,30 +199,30 @@ managed_given f m g s id told given named taken turns =
     })
 
 -- the wiring and the manager stay where a switch steps
-stays : (f g : ControlPlane) → g.plan ≡ f.plan → g.manager ≡ f.manager → AreGivenBy f.plan f.manager.askers g.view g.orders → ArePodsGiven g
+stays : (f g : ControlPlane) → g.plan ≡ f.plan → g.manager ≡ f.manager → AreGivenBy f.plan f.manager g.view g.orders → ArePodsGiven g
 stays f g same_plan same_manager given =
-    subst₂ (λ (p : Plan) (v : ManagerView). AreGivenBy p v.askers g.view g.orders) (sym same_plan) (sym same_manager) given
+    subst₂ (λ (p : Plan) (v : ManagerView). AreGivenBy p v g.view g.orders) (sym same_plan) (sym same_manager) given
 
 pub plane_given : (f g : ControlPlane) → IsPlan f.plan → ArePlaced f.plan f → FixedAreApart f.plan f.view → FixedAreApart f.plan g.view → ArePodsGiven f →
     PlaneStep Loose manager_rule f g → ArePodsGiven g
 plane_given f g is placed apart then_apart given (Left left) =
-    stays f g left.plan left.manager (left_given f.plan f.manager.askers f g left.view left.orders given)
+    stays f g left.plan left.manager (left_given f.plan f.manager f g left.view left.orders given)
 plane_given f g is placed apart then_apart given (Ticked s turns) =
     stays f g turns.acted.plan turns.acted.manager
-    (turned_given f g is placed apart then_apart f.manager.askers f s Tick (λ t. refl) given given turns
+    (turned_given f g is placed apart then_apart f.manager f s Tick (λ t. refl) given given turns
     (knows_same (f.view s) (own_of f g is placed apart then_apart f s refl) (λ n. ⊥) (ticks (f.view s)).view.place
     (ap (λ (w : SwitchView). w.place) (ages_learn (with_aged_ports (f.view s))))))
 plane_given f g is placed apart then_apart given (Heard t q s port frame mid adjacent control taken turns) =
     stays f g (turns.acted.plan ∙ taken.left.plan) (turns.acted.manager ∙ taken.left.manager)
-    (heard_given f g is placed apart then_apart f.manager.askers mid t q s port frame given adjacent control taken turns)
+    (heard_given f g is placed apart then_apart f.manager mid t q s port frame given adjacent control taken turns)
 plane_given f g is placed apart then_apart given (Carried t q s port frame mid adjacent control carries taken turns) =
     stays f g (turns.acted.plan ∙ taken.left.plan) (turns.acted.manager ∙ taken.left.manager)
-    (data_given f g is placed apart then_apart f.manager.askers mid s port frame taken.left.view given
-    (left_given f.plan f.manager.askers f mid taken.left.view taken.left.orders given) control turns)
+    (data_given f g is placed apart then_apart f.manager mid s port frame taken.left.view given
+    (left_given f.plan f.manager f mid taken.left.view taken.left.orders given) control turns)
 plane_given f g is placed apart then_apart given (Entered s port frame edge within free control turns) =
     stays f g turns.acted.plan turns.acted.manager
-    (data_given f g is placed apart then_apart f.manager.askers f s port frame (λ t. refl) given given control turns)
+    (data_given f g is placed apart then_apart f.manager f s port frame (λ t. refl) given given control turns)
 plane_given f g is placed apart then_apart given (Ordered s says mid taken turns) =
     stays f g (turns.acted.plan ∙ taken.left.plan) (turns.acted.manager ∙ taken.left.manager)
-    (ordered_given f g is placed apart then_apart f.manager.askers mid s says given taken turns)
-plane_given f g is placed apart then_apart given (Managed s id told mid there named taken turns) = managed_given f mid g s id told given named taken turns
+    (ordered_given f g is placed apart then_apart f.manager mid s says given taken turns)
+plane_given f g is placed apart then_apart given (Managed s id told mid there named taken turns) = managed_given f mid g s id told is given named taken turns

@@ -1,13 +1,14 @@
 -- Each step of the control plane keeps the numbers that were given.
-use Rattle.std.proofs.Common.{◌≡◌, ℕ, ◌+◌, ◌==◌, ◌&&◌, ◌||◌, ◌%◌, not, nat_lt, eqb-true, Bool, true, false, true≢false, if◌then◌else◌, [], Option, Some, None, is_none, Result, Ok, Err, refl, sym, ◌∙◌, ap, subst, arith, inl, inr, ◌⊎◌}
-use Rattle.std.proofs.lemmas.Bool.{and_parts, cond_both}
+use Rattle.std.proofs.Common.{◌≡◌, ◌<◌, ℕ, ◌+◌, ◌==◌, ◌&&◌, ◌||◌, ◌%◌, not, nat_lt, eqb-true, Bool, true, false, true≢false, if◌then◌else◌, [], Option, Some, None, is_none, Result, Ok, Err, refl, sym, ◌∙◌, ap, subst, arith, inl, inr, ◌⊎◌}
+use Rattle.std.proofs.lemmas.Bool.{and_parts, cases_lt, cond_both}
 use Rattle.pl_lemmas.proofs.Exports.{is_none_is}
 use Rattle.pl_frame.specs.declared.address.SwitchId.{SwitchId}
 use Rattle.pl_wiring.specs.declared.label.Label.{Label}
 use Rattle.pl_wiring.specs.declared.label.Label.TheVariants.{Aggregation, Core, Edge}
 use Rattle.pl_wiring.specs.FatTree.{IsBelow}
-use Rattle.pl_wiring.specs.Labels.{label_of}
+use Rattle.pl_wiring.specs.Labels.{edge_count, label_of, switch_count}
 use Rattle.pl_wiring.specs.Plan.{IsPlan}
+use Rattle.pl_wiring.proofs.Exports.{label_of-aggregation, label_of-core}
 use Rattle.pl_layouts.specs.declared.control.Control.{Control}
 use Rattle.pl_layouts.specs.declared.control.Control.TheVariants.{Ldm, Proposal, Vote}
 use Rattle.pl_layouts.specs.declared.control.ControlError.{ControlError}
@@ -35,6 +36,16 @@ use Rattle.pl_journal.specs.Flights.{label_level}
 use Rattle.pl_journal.proofs.Exports.{edge_of}
 
 -- Labels.
+
+-- an edge switch by its label is there
+pub edge_there : (k z pod i : ℕ) → label_of k z ≡ Edge pod i → z < switch_count k
+edge_there k z pod i edge = elim (cases_lt z (edge_count k)) [
+  | inl low ↦ omega (arith, low)
+  | inr high ↦ elim (cases_lt z (edge_count k + edge_count k)) [
+    | inl low ↦ let other = label_of-aggregation k z high low in absurd (cc (edge, other))
+    | inr higher ↦ let other = label_of-core k z higher in absurd (cc (edge, other))
+  ]
+]
 
 -- an edge and an aggregation switch that are joined are of one pod
 one_pod : (s t : Label) (pod i : ℕ) → s ≡ Edge pod i → 1 ≡ label_level t → IsBelow s t ⊎ IsBelow t s → pod_of t ≡ Some pod

@@ -1,7 +1,8 @@
 ghost use Rattle.std.specs.Prelude.{◌≡◌, ℕ, List, None, Some};
 ghost use Rattle.pl_frame.specs.declared.address.SwitchId.{SwitchId};
 ghost use Rattle.pl_wiring.specs.Plan.{IsPlan, Plan};
-ghost use Rattle.pl_node.specs.ManagerViews.{pod_given};
+ghost use Rattle.pl_node.specs.declared.pod_given.PodGiven.{PodGiven};
+ghost use Rattle.pl_node.specs.ManagerViews.{Told, pod_given};
 ghost use Rattle.pl_manager_rule.specs.ManagerRule.{manager_rule, with_asker};
 ghost use Rattle.pl_switch_rule.specs.SwitchRule.{Loose};
 ghost use Rattle.pl_world.specs.declared.event.Event.{Event};
@@ -19,16 +20,16 @@ ghost use Rattle.pl_law_pods.specs.Pods.{ArePodsGiven, KnownAreGiven};
 
 use pl_node::HostLogic;
 
-/// No two switches were given one number.
+/// Where numbers are those that were given, no two switches were given one.
 pub fn no_two_switches_have_one_number()
-    ensures { (askers : List SwitchId) (a b : SwitchId) (n : ℕ) →
-        pod_given askers a ≡ Some n → pod_given askers b ≡ Some n → a.0 ≡ b.0 }
+    ensures { (plane : ControlPlane) (a b : SwitchId) (n : ℕ) → ArePodsGiven plane →
+        pod_given plane.manager.pods a ≡ Some n → pod_given plane.manager.pods b ≡ Some n → a.0 ≡ b.0 }
 {}
 
 /// A number that was given stays with its switch, whoever asks after it.
 pub fn a_number_stays_with_its_switch()
-    ensures { (askers : List SwitchId) (asker switch : SwitchId) (n : ℕ) →
-        pod_given askers switch ≡ Some n → pod_given (with_asker askers asker) switch ≡ Some n }
+    ensures { (told : Told) (pods : List PodGiven) (asker switch : SwitchId) (n : ℕ) →
+        pod_given pods switch ≡ Some n → pod_given (with_asker told pods asker) switch ≡ Some n }
 {}
 
 /// At the beginning no number was given, and none is known.

@@ -16,7 +16,7 @@ use Rattle.pl_layouts.specs.Placement.{nowhere, same_place}
 use Rattle.pl_layouts.proofs.Exports.{place_is, place_itself, pmac_is}
 use Rattle.pl_wiring.specs.Plan.{Plan}
 use Rattle.pl_journal.specs.declared.entry.Entry.{Entry}
-use Rattle.pl_journal.specs.declared.entry.Entry.TheVariants.{Arrived, Copied, Crossed, Dropped, Freed, Granted, Line, LinkDown, LinkUp, Made, Moved, Placed, Redirected, Registered, Sent, Settled, Skipped, Taken, Unsettled}
+use Rattle.pl_journal.specs.declared.entry.Entry.TheVariants.{Arrived, Copied, Crossed, Dropped, Freed, Granted, Line, LinkDown, LinkUp, Made, Moved, Placed, Redirected, Registered, Restarted, Sent, Settled, Skipped, Taken, Unsettled}
 use Rattle.pl_node.specs.HostInputs.{HostRule}
 use Rattle.pl_node.proofs.Exports.{among_of_Contains, Contains-of_among, nothing_numbered}
 use Rattle.pl_node.specs.ManagerDuties.{AnswersDuly, AreNumbered, ManagerRule, numbered_by, with_number}
@@ -132,6 +132,7 @@ one_written (Registered x n) past s = refl
 one_written (LinkDown a b) past s = refl
 one_written (LinkUp a b) past s = refl
 one_written (Moved h t port) past s = refl
+one_written (Restarted n) past s = refl
 one_written (Settled n) past s = refl
 one_written (Unsettled n) past s = refl
 
@@ -168,6 +169,7 @@ mark_is_other (Registered x n) is = absurd is
 mark_is_other (LinkDown a b) is = absurd is
 mark_is_other (LinkUp a b) is = absurd is
 mark_is_other (Moved h t port) is = absurd is
+mark_is_other (Restarted number) is = absurd is
 
 -- each switch knows the place that was written last of it
 abbrev AreWritten : WorldView → Type 0

@@ -21,7 +21,7 @@ use Rattle.pl_layouts.specs.Placement.{same_place}
 use Rattle.pl_journal.specs.declared.cause.Cause.TheVariants as cause
 use Rattle.pl_journal.specs.declared.cause.Skip.{Skip}
 use Rattle.pl_journal.specs.declared.entry.Entry.{Entry}
-use Rattle.pl_journal.specs.declared.entry.Entry.TheVariants.{Arrived, Copied, Crossed, Dropped, Freed, Granted, Line, LinkDown, LinkUp, Made, Moved, Placed, Redirected, Registered, Sent, Settled, Skipped, Taken, Unsettled}
+use Rattle.pl_journal.specs.declared.entry.Entry.TheVariants.{Arrived, Copied, Crossed, Dropped, Freed, Granted, Line, LinkDown, LinkUp, Made, Moved, Placed, Redirected, Registered, Restarted, Sent, Settled, Skipped, Taken, Unsettled}
 use Rattle.pl_journal.specs.Places.{is_host_port}
 use Rattle.pl_journal.specs.Savable.{IsSavable, IsWhole}
 use Rattle.pl_journal.specs.Text.{IsHost, IsSwitch}
@@ -348,6 +348,7 @@ module _ (plan : Plan) where
   marks w (LinkDown x y) is saves = absurd is
   marks w (LinkUp x y) is saves = absurd is
   marks w (Moved host edge port) is saves = absurd is
+  marks w (Restarted number) is saves = absurd is
 
 moves_to_a_switch : (w : WorldView) (h s port : ℕ) → refusal_of_move w h s port ≡ None → s < switch_count w.plan.k
 moves_to_a_switch w h s port none =

@@ -17,14 +17,13 @@ use Rattle.pl_wiring.specs.Plan.{IsHostMac, IsPlan, Plan}
 use Rattle.pl_journal.specs.declared.entry.Entry.{Entry}
 use Rattle.pl_journal.specs.declared.entry.Entry.TheVariants.{Granted}
 use Rattle.pl_journal.specs.Lossy.{IsNewer, mac_of_host}
-use Rattle.pl_journal.specs.Places.{EdgePort, are_alike, at_port, holder, is_live, live_holder, number, registered, same_pod_and_position, edge_port}
+use Rattle.pl_journal.specs.Places.{EdgePort, are_alike, at_port, holder, is_live, live_holder, same_pod_and_position, edge_port}
 use Rattle.pl_journal.proofs.Exports.{not_held_not_live, not_held_nowhere}
 use Rattle.pl_node.specs.AddressUses.{is_held}
 use Rattle.pl_node.specs.declared.address_use.AddressUse.{AddressUse}
 use Rattle.pl_node.specs.declared.address_use.AddressUse.TheVariants.{Free, InUse, Resting, Trapped}
 use Rattle.pl_node.specs.declared.switch_records.Grant.{Grant}
 use Rattle.pl_node.specs.declared.trap.Trap.{Trap}
-use Rattle.pl_node.specs.ManagerViews.{Registration}
 use Rattle.pl_node.specs.SwitchViews.{SwitchView}
 use Rattle.pl_switch_rule.specs.Delivering.{grant_trap, trap_for}
 use Rattle.pl_switch_rule.specs.Granting.{granted, held_here, is_local, unless_free}
@@ -33,11 +32,11 @@ use Rattle.pl_world.specs.Changes.{host_of}
 use Rattle.pl_world.specs.Worlds.{WorldView}
 use Rattle.pl_law_control_plane.specs.ControlPlanes.{control_plane, no_switch}
 use Rattle.pl_law_phases.specs.Tenures.{is_held as is_held_there}
-use Rattle.pl_law_addresses.specs.Registries.{registry_of}
-use Rattle.pl_law_addresses.proofs.Exports.{first_passes, granted_here, known_same, trap_leads}
+use Rattle.pl_law_addresses.proofs.Exports.{first_passes, granted_here, known_same}
 use Rattle.pl_law_invariant.specs.ControlInvariant.{ControlInvariant}
+use Rattle.pl_law_ledger.specs.Leading.{Leads}
 use Rattle.pl_law_ledger.specs.Ledgers.{IsBacked, IsGrantedThere, ledger}
-use Rattle.pl_law_ledger.proofs.Exports.{fits_there, grounds, held_somewhere, in_bounds, IsAlike, IsEnteredAll, of_edge, same_says, Says, says}
+use Rattle.pl_law_ledger.proofs.Exports.{are_led, fits_there, grounds, held_somewhere, in_bounds, IsAlike, IsEnteredAll, of_edge, same_says, Says, says}
 use Rattle.pl_law_flights.specs.OnTheWay.{history_of}
 use Rattle.pl_law_flights.specs.Standing.{IsGranted, IsNextAddress, KnowsAddresses, TrapLeadsOn, WasGranted}
 use Rattle.pl_law_flights.proofs.Exports.{host_unicast}
@@ -123,9 +122,6 @@ module _ (w : WorldView) (kept : ControlInvariant w) (entered : IsEnteredAll w) 
   same_edge_ports : (n : ℕ) → edge_port (reverse w.journal) n ≡ edge_port (ledger (reverse w.journal)) n
   same_edge_ports n = ap (λ (f : Says). f.edge_ports n) (sym (same_says w.plan (reverse w.journal)))
 
-  same_numbers : (n : ℕ) → number (reverse w.journal) n ≡ number (ledger (reverse w.journal)) n
-  same_numbers n = ap (λ (f : Says). f.numbers n) (sym (same_says w.plan (reverse w.journal)))
-
   pub fits_at : (s : ℕ) (v : SwitchView) (x : Pmac) (g : Grant) → slice_get w.switches s ≡ Some v → granted v x ≡ Some g → PmacFits x
   fits_at s v x g found is = fits_there w.switches kept.counted.shaped (in_bounds w kept entered.asking) entered.ledger.few s v x g found is
 
@@ -187,31 +183,29 @@ module _ (w : WorldView) (kept : ControlInvariant w) (entered : IsEnteredAll w) 
       let past : List Entry = reverse w.journal in
       cond-false (is_live past (pmac_number x)) (holder past (pmac_number x)) None (dead_here t v found x fits local none)
 
-  -- who holds a registered address
-  record HeldBy (x : Pmac) (mac : Mac) : Type 0 where
-    host : ℕ
-    of_mac : host_of w.plan mac ≡ Some host
-    held : live_holder (reverse w.journal) (pmac_number x) ≡ Some host
-    fits : PmacFits x
-    unicast : is_group (mac_of x) ≡ false
+  -- an address that is granted somewhere, and that has a holder, is for one host
+  own_of_held : (x : Pmac) (h : ℕ) → PmacFits x → holder (reverse w.journal) (pmac_number x) ≡ Some h → is_group (mac_of x) ≡ false
+  own_of_held x h fits held =
+      let at = held_somewhere w.switches (ledger (reverse w.journal)) (pmac_number x) h entered.ledger.backed (sym (same_holder (pmac_number x)) ∙ held) in
+      let same : at.pmac ≡ x = same_pmac_number at.pmac x (fits_at at.switch at.there.view at.pmac at.there.grant at.there.found at.there.is) fits at.same in
+      own_at at.switch at.there.view x at.there.found
+      (subst (λ (y : Pmac). is_local at.there.view y ≡ true) same (granted_parts at.there.view at.pmac at.there.grant at.there.is).0) fits
 
-  registered_so : (x : Pmac) (reg : Registration) → (registry_of w.manager.learnt).at x ≡ Some reg → HeldBy x reg.amac
-  registered_so x reg is =
-      let a = kept.addresses.addressed in
-      let home = a.homed x reg is in
-      let here = ((a.edges home.switch home.view home.found).here x reg is home.at).granted_to in
-      let e = entered.ledger.grants home.switch home.view x here.grant home.found here.found in
-      let fits = fits_at home.switch home.view x here.grant home.found here.found in
+  -- a trap leads on, as the journal says
+  leads_on : (x : Pmac) (trap : Trap) (h : ℕ) → holder (reverse w.journal) (pmac_number x) ≡ Some h → Leads (reverse w.journal) x trap.new trap.number →
+      TrapLeadsOn (history_of (reverse w.journal)) x trap
+  leads_on x trap h held l =
+      let past : List Entry = reverse w.journal in
+      let first = l.rises in
+      let last = l.within in
+      let more : l.from < l.to = omega (arith, first, last) in
       record {
-        host = e.host;
-        of_mac = ap (host_of w.plan) (sym here.to) ∙ e.of_mac;
-        held = holds_live (pmac_number x) e.host (e.live ∙ is_as_there here.grant.held ∙ here.held) e.held;
-        fits = fits;
-        unicast = own_at home.switch home.view x home.found home.at fits;
+        same_host = cond-true (is_live past (pmac_number trap.new)) (holder past (pmac_number trap.new)) None l.live.1
+            ∙ l.host ∙ sym (cond-true (is_live past (pmac_number x)) (holder past (pmac_number x)) None l.live.0);
+        newer = subst₂ IsNewer (sym l.old_has) (sym l.new_has) more;
+        fits = l.fits;
+        unicast = own_of_held trap.new h l.fits (l.host ∙ held);
       }
-
-  number_so : (x : Pmac) (reg : Registration) → PmacFits x → (registry_of w.manager.learnt).at x ≡ Some reg → number (reverse w.journal) (pmac_number x) ≡ Some reg.number
-  number_so x reg fits is = same_numbers (pmac_number x) ∙ entered.ledger.numbers x reg.number fits (ap (option_map (λ (r : Registration). r.number)) is)
 
   leads_so : (t : ℕ) (v : SwitchView) → slice_get w.switches t ≡ Some v → (x : Pmac) (trap : Trap) → trap_for v x ≡ Some trap → TrapLeadsOn (history_of (reverse w.journal)) x trap
   leads_so t v found x trap is = by (granted v x) refl is
@@ -219,17 +213,10 @@ module _ (w : WorldView) (kept : ControlInvariant w) (entered : IsEnteredAll w) 
       by : (o : Option Grant) → granted v x ≡ o → grant_trap o ≡ Some trap → TrapLeadsOn (history_of (reverse w.journal)) x trap
       by None at e = absurd (none-some trap e)
       by (Some g) at e =
-          let leads = trap_leads w kept.addresses.addressed t v found x g at trap e in
-          let old = registered_so x leads.before leads.found_before in
-          let new = registered_so trap.new leads.after leads.found_after in
-          let host : new.host ≡ old.host =
-          same_Some new.host old.host (sym new.of_mac ∙ ap (host_of w.plan) (leads.mac_after ∙ sym leads.mac_before) ∙ old.of_mac) in
-          record {
-            same_host = new.held ∙ ap Some host ∙ sym old.held;
-            newer = subst₂ IsNewer (sym (number_so x leads.before old.fits leads.found_before)) (sym (number_so trap.new leads.after new.fits leads.found_after ∙ ap Some leads.number_after)) leads.rises;
-            fits = new.fits;
-            unicast = new.unicast;
-          }
+          let entry = entered.ledger.grants t v x g found at in
+          leads_on x trap entry.host (same_holder (pmac_number x) ∙ entry.held)
+          (are_led w kept entered t v x trap.new trap.number found
+          (inl (record { grant = g; trap = trap; found = at; set = e; leads_to = refl; carries = refl })))
 
   back_so : (t : ℕ) (v : SwitchView) → slice_get w.switches t ≡ Some v → (x : Pmac) (port : ℕ) → PmacFits x → edge_port (reverse w.journal) (pmac_number x) ≡ Some (at_port t port) →
       (is_local v x ≡ true) × (x.port ≡ port)

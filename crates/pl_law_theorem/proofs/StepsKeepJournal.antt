@@ -1,7 +1,7 @@
 -- Of a world and the one after a step: what was known of places is known, first addresses could be granted, and the manager numbers well.
-use Rattle.std.proofs.Common.{◌≡◌, ◌≢◌, ◌<◌, ◌+◌, ◌==◌, ◌&&◌, ℕ, true, false, List, [], ◌∷◌, length, reverse, Option, Some, None, slice_get, refl, sym, ap, subst, subst₂, ◌∙◌, inl, inr, arith, le_refl}
-use Rattle.std.specs.List.{AllByRecursion, list_any}
-use Rattle.std.proofs.lemmas.Bool.{and_parts, cases_Bool, eqb-true, false≢true, or_left}
+use Rattle.std.proofs.Common.{◌≡◌, ◌≤◌, ◌≢◌, ◌<◌, ◌+◌, ◌==◌, ◌&&◌, ℕ, true, false, List, [], ◌∷◌, length, reverse, Option, Some, None, slice_get, refl, sym, ap, subst, subst₂, ◌∙◌, inl, inr, arith, le_refl}
+use Rattle.std.specs.List.{AllByRecursion}
+use Rattle.std.proofs.lemmas.Bool.{and_parts, cases_Bool, eqb-true, false≢true}
 use Rattle.std.proofs.lemmas.Option.{same_Some, slice_get_within}
 use Rattle.pl_pmac.specs.declared.pmac.Pmac.{Pmac}
 use Rattle.pl_pmac.specs.Pmac.{PmacFits, pmac_number}
@@ -11,7 +11,7 @@ use Rattle.pl_layouts.specs.Placement.{is_known}
 use Rattle.pl_journal.specs.declared.entry.Entry.{Entry}
 use Rattle.pl_journal.specs.declared.entry.Entry.TheVariants.{Granted, Registered}
 use Rattle.pl_journal.specs.Lossy.{Needs}
-use Rattle.pl_journal.specs.Places.{holder, is_live, number, registered, same_pod_and_position}
+use Rattle.pl_journal.specs.Places.{highest, holder, is_live, same_pod_and_position}
 use Rattle.pl_journal.proofs.Exports.{not_held_not_live, not_held_nowhere}
 use Rattle.pl_node.specs.AddressUses.{is_held}
 use Rattle.pl_node.specs.declared.acts.ManagerAct.{ManagerAct}
@@ -25,7 +25,6 @@ use Rattle.pl_node.specs.SwitchViews.{SwitchView}
 use Rattle.pl_node.specs.declared.switch_records.Grant.{Grant}
 use Rattle.pl_manager_rule.specs.Histories.{known}
 use Rattle.pl_manager_rule.specs.ManagerRule.{manager_hears, manager_rule}
-use Rattle.pl_queues.specs.Queues.{items_at}
 use Rattle.pl_switch_rule.specs.Granting.{address_at_port, granted, is_local}
 use Rattle.pl_switch_rule.specs.SwitchRule.{Loose}
 use Rattle.pl_switch_rule.proofs.Exports.{granted_parts}
@@ -34,10 +33,10 @@ use Rattle.pl_world.specs.declared.event.Event.{Event}
 use Rattle.pl_world.specs.Refusals.{refusal}
 use Rattle.pl_world.specs.WorldRule.{WorldStep}
 use Rattle.pl_world.specs.Worlds.{WorldView}
-use Rattle.pl_law_addresses.specs.EdgeAddresses.{IsGoodWord, is_settled, tells}
+use Rattle.pl_law_addresses.specs.EdgeAddresses.{IsGoodWord, is_settled}
 use Rattle.pl_law_addresses.specs.GrantedOnce.{StayUnlessFreed, times_freed}
 use Rattle.pl_law_addresses.specs.OwnAddresses.{own_ip}
-use Rattle.pl_law_addresses.proofs.Exports.{exists_at, local_here, local_settled, moment_of, same_by, step_in_order}
+use Rattle.pl_law_addresses.proofs.Exports.{exists_at, local_here, local_settled, moment_of, step_in_order}
 use Rattle.pl_law_invariant.specs.ControlInvariant.{ControlInvariant}
 use Rattle.pl_law_ledger.specs.Ledgers.{IsBacked, IsGrantedThere, ledger}
 use Rattle.pl_law_ledger.proofs.Exports.{grounds, held_somewhere, in_bounds, IsAlike, IsEnteredAll, learns, LearnsBy, LearnsOne, Numbering, numberings, of_edge, places_grow, same_says, Says, says}
@@ -149,23 +148,21 @@ by_numberings plan (Say to says ∷ acts) past well = by_numberings plan acts pa
 by_numberings plan (Number x n ∷ acts) past well = (well.0, by_numberings plan acts (Registered x n ∷ past) well.1)
 
 module _ (w : WorldView) (kept : ControlInvariant w) (entered : IsEnteredAll w) where
-  -- what is learnt may be numbered: it is somebody's, and was told first since it was granted
-  one_well : (s : ℕ) (v : SwitchView) → slice_get w.switches s ≡ Some v → (x : Pmac) (g : Grant) → granted v x ≡ Some g → is_held g.held ≡ true → list_any (tells x) (items_at w.to_manager s) ≡ true →
+  -- what is learnt may be numbered: it is somebody's, and its number is above all before
+  one_well : (s : ℕ) (v : SwitchView) → slice_get w.switches s ≡ Some v → (x : Pmac) (g : Grant) → granted v x ≡ Some g → is_held g.held ≡ true →
       (after : Learnt) (ns : List Numbering) → LearnsOne w.manager.learnt after ns x → OneWell w.plan (reverse w.journal) ns
-  one_well s v found x g is held told after ns one = subst (OneWell w.plan (reverse w.journal)) (sym one.one) ((is_live_now, none_numbered, next), tt)
+  one_well s v found x g is held after ns one = subst (OneWell w.plan (reverse w.journal)) (sym one.one) ((is_live_now, above), tt)
     where
       is_live_now : is_live (reverse w.journal) (pmac_number x) ≡ true
       is_live_now =
           let e = entered.ledger.grants s v x g found is in
           ap (λ (f : Says). f.live (pmac_number x)) (sym (same_says w.plan (reverse w.journal))) ∙ e.live ∙ held
 
-      none_numbered : number (reverse w.journal) (pmac_number x) ≡ None
-      none_numbered =
-          ap (λ (f : Says). f.numbers (pmac_number x)) (sym (same_says w.plan (reverse w.journal)))
-          ∙ entered.ledger.unnumbered s x (fits_at w kept entered s v x g found is) told one.none
-
-      next : w.manager.learnt.count + 1 ≡ registered (reverse w.journal) + 1
-      next = ap (λ n. n + 1) (sym (ap (λ (f : Says). f.many) (sym (same_says w.plan (reverse w.journal))) ∙ entered.ledger.count))
+      above : highest (reverse w.journal) < w.manager.learnt.count + 1
+      above =
+          let most : highest (reverse w.journal) ≤ w.manager.learnt.count =
+          subst (λ n. n ≤ w.manager.learnt.count) (ap (λ (f : Says). f.top) (same_says w.plan (reverse w.journal))) entered.ledger.most in
+          omega (arith, most)
 
   pub numbers_well : ManagerNumbersWell manager_rule w
   numbers_well s says items id after acts head there ruled =
@@ -181,18 +178,17 @@ module _ (w : WorldView) (kept : ControlInvariant w) (entered : IsEnteredAll w) 
       subst (λ (m : ManagerView). LearnsBy says m.learnt step.view.learnt (numberings step.acts)) (sym tale.knows) (learns w.plan.k tale.words id says) in
       by_numberings w.plan acts (reverse w.journal)
       (subst (λ (xs : List ManagerAct). OneWell w.plan (reverse w.journal) (numberings xs)) (sym acts_are)
-      (by says sender.0 step.view.learnt (numberings step.acts) sender.1 words.0
-      (λ x is. ap (λ (ws : List ToManager). list_any (tells x) ws) head ∙ or_left (tells x says) (list_any (tells x) items) is) learnt))
+      (by says sender.0 step.view.learnt (numberings step.acts) sender.1 words.0 learnt))
     where
       by : (told : ToManager) (v : SwitchView) (after : Learnt) (ns : List Numbering) → slice_get w.switches s ≡ Some v → IsGoodWord (λ mac. own_ip w.plan mac) (λ x. granted v x) told →
-          ((x : Pmac) → tells x told ≡ true → list_any (tells x) (items_at w.to_manager s) ≡ true) → LearnsBy told w.manager.learnt after ns → OneWell w.plan (reverse w.journal) ns
-      by (tell.Learned x mac ip) v after ns found word there l = elim l [
+          LearnsBy told w.manager.learnt after ns → OneWell w.plan (reverse w.journal) ns
+      by (tell.Learned x mac ip) v after ns found word l = elim l [
         | inl nothing ↦ subst (OneWell w.plan (reverse w.journal)) (sym nothing.none) tt
-        | inr one ↦ one_well s v found x word.0.grant word.0.found (is_as_there word.0.grant.held ∙ word.0.held) (there x (same_by x x refl)) after ns one
+        | inr one ↦ one_well s v found x word.0.grant word.0.found (is_as_there word.0.grant.held ∙ word.0.held) after ns one
       ]
-      by (tell.Aged x number) v after ns found word there l = subst (OneWell w.plan (reverse w.journal)) (sym l.none) tt
-      by (tell.Place place) v after ns found word there l = subst (OneWell w.plan (reverse w.journal)) (sym l.none) tt
-      by (tell.Link u usable) v after ns found word there l = subst (OneWell w.plan (reverse w.journal)) (sym l.none) tt
-      by tell.PodWanted v after ns found word there l = subst (OneWell w.plan (reverse w.journal)) (sym l.none) tt
-      by (tell.Query asker asker_ip ip) v after ns found word there l = subst (OneWell w.plan (reverse w.journal)) (sym l.none) tt
-      by (tell.Members group any) v after ns found word there l = subst (OneWell w.plan (reverse w.journal)) (sym l.none) tt
+      by (tell.Aged x number) v after ns found word l = subst (OneWell w.plan (reverse w.journal)) (sym l.none) tt
+      by (tell.Place place) v after ns found word l = subst (OneWell w.plan (reverse w.journal)) (sym l.none) tt
+      by (tell.Link u usable) v after ns found word l = subst (OneWell w.plan (reverse w.journal)) (sym l.none) tt
+      by tell.PodWanted v after ns found word l = subst (OneWell w.plan (reverse w.journal)) (sym l.none) tt
+      by (tell.Query asker asker_ip ip) v after ns found word l = subst (OneWell w.plan (reverse w.journal)) (sym l.none) tt
+      by (tell.Members group any) v after ns found word l = subst (OneWell w.plan (reverse w.journal)) (sym l.none) tt

@@ -1,9 +1,10 @@
 -- The invariant of the network: what holds where a fabric begins, and after each event of each of its runs.
-use Rattle.std.specs.Prelude.{◌≡◌, ◌<◌, ◌≤◌, ℕ, List, Some, length, reverse, slice_get}
+use Rattle.std.specs.Prelude.{◌≡◌, ◌<◌, ℕ, Some, reverse, slice_get}
+use Rattle.std.specs.List.{AllByRecursion}
 use Rattle.pl_pmac.specs.declared.pmac.Pmac.{Pmac}
 use Rattle.pl_journal.specs.Lossy.{GoodTrail, Run}
 use Rattle.pl_node.specs.ManagerDuties.{with_number}
-use Rattle.pl_node.specs.ManagerViews.{Registration, pods_given, registration}
+use Rattle.pl_node.specs.ManagerViews.{Registration, registration}
 use Rattle.pl_node.specs.SwitchViews.{SwitchView}
 use Rattle.pl_world.specs.Worlds.{WorldView}
 use Rattle.pl_fabric.specs.Settled.{IsSettled}
@@ -29,8 +30,8 @@ use Rattle.pl_law_flights.specs.OnTheWay.{IsJournaled}
 pub record PlacesAreInOrder (w : WorldView) : Type 0 where
   -- positions are refused and left for a reason, and those that ask for pods are edge switches with position 0
   pub placing : ArePlacing w
-  -- no more numbers of pods are given than there are pods, and those of placed edge switches are of one byte, as their positions are
-  pub few_pods : length (pods_given w.manager.askers) ≤ w.plan.k
+  -- each number of a pod that was given is below how many pods there are, and those of placed edge switches are of one byte, as their positions are
+  pub below : AllByRecursion (λ g. g.pod < w.plan.k) w.manager.pods
   pub one_byte : AreInBounds w.switches
 
 -- Addresses of hosts, beside what switches and manager know of them.

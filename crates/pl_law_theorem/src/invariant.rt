@@ -14,7 +14,7 @@ use pl_law_invariant::{
     each_run_of_lawful_logic_is_a_run_of_the_rules, lawful_logic_keeps_all_of_it,
 };
 use pl_law_ledger::{
-    no_more_numbers_are_given_than_there_are_pods, pods_and_positions_are_of_one_byte_in_every_run,
+    each_number_given_is_below_the_number_of_pods, pods_and_positions_are_of_one_byte_in_every_run,
     the_journal_says_what_was_granted_in_every_run,
 };
 use pl_law_members::hosts_have_joined_what_their_frames_said_in_every_run;
@@ -42,7 +42,7 @@ pub fn places_are_in_order_in_every_run<H: HostLogic>()
     ensures { InEveryRun Loose manager_rule H.rule PlacesAreInOrder }
 {
     every_run_keeps_edge_switches_placing::<H>();
-    no_more_numbers_are_given_than_there_are_pods::<H>();
+    each_number_given_is_below_the_number_of_pods::<H>();
     pods_and_positions_are_of_one_byte_in_every_run::<H>();
 }
 

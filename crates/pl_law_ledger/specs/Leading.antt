@@ -1,0 +1,28 @@
+-- Where traps lead, by what the journal says of addresses: whether or not the fabric manager knows them.
+use Rattle.std.specs.Prelude.{◌≡◌, ◌≤◌, ◌<◌, ℕ, true, List, reverse, Some, slice_get}
+use Rattle.pl_pmac.specs.declared.pmac.Pmac.{Pmac}
+use Rattle.pl_pmac.specs.Pmac.{PmacFits, pmac_number}
+use Rattle.pl_journal.specs.declared.entry.Entry.{Entry}
+use Rattle.pl_journal.specs.Places.{holder, is_live, number}
+use Rattle.pl_node.specs.SwitchViews.{SwitchView}
+use Rattle.pl_queues.specs.Queues.{items_at}
+use Rattle.pl_world.specs.Worlds.{WorldView}
+use Rattle.pl_law_addresses.specs.Standing.{IsStanding}
+
+-- From an address to a newer one of its host; both are live. The trap's number is above the old address's, and not above the newer one's, which
+-- may have been numbered anew since.
+pub record Leads (past : List Entry) (old new : Pmac) (trap : ℕ) : Type 0 where
+  pub from : ℕ
+  pub to : ℕ
+  pub old_has : number past (pmac_number old) ≡ Some from
+  pub new_has : number past (pmac_number new) ≡ Some to
+  pub rises : from < trap
+  pub within : trap ≤ to
+  pub live : (is_live past (pmac_number old) ≡ true) × (is_live past (pmac_number new) ≡ true)
+  pub host : holder past (pmac_number new) ≡ holder past (pmac_number old)
+  pub fits : PmacFits new
+
+-- each trap leads so that stands at its edge switch, or waits for it
+abbrev pub AreLed : WorldView → Type 0
+AreLed w = (s : ℕ) (v : SwitchView) (old new : Pmac) (trap : ℕ) → slice_get w.switches s ≡ Some v →
+    IsStanding v (items_at w.from_manager s) old new trap → Leads (reverse w.journal) old new trap

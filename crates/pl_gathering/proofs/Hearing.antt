@@ -4,7 +4,7 @@ use Rattle.std.proofs.Common.{◌≡◌, ℕ, Bool, true, false, if◌then◌els
 use Rattle.std.proofs.lemmas.Bool.{and_parts, cases_Bool, cond_both, eq-eqb, or_parts}
 use Rattle.pl_frame.specs.declared.address.SwitchId.{SwitchId}
 use Rattle.pl_layouts.specs.Equality.{same_switch}
-use Rattle.pl_gathering.specs.Gathering.{Gathered, Heard, Report, all_treated, due, gone_through, hears, hears_begin, hears_end, hears_word, in_turn, is_among, is_whole, kept_of, with_ended, words, words_behind_begin}
+use Rattle.pl_gathering.specs.Gathering.{Gathered, Heard, Report, all_treated, due, gone_through, hears, hears_begin, hears_end, hears_word, in_turn, is_among, is_whole, kept_of, with_ended, words, words_behind_begin, treated_alone}
 use Rattle.pl_gathering.specs.Gathering.Report.{Begin, End, Tells}
 use Rattle.pl_gathering.specs.Keeping.{IsKept, before}
 use Rattle.pl_gathering.specs.Orderly.{IsGathering}
@@ -136,6 +136,7 @@ module _ {K T : Type 0} (treat : K → Heard T → K) (P : K → (SwitchId → L
       ∙ fun_ext (λ t. unheard g s t word queue none (same_switch s t) refl)
       ∙ sym (due_part g queue part)) holds))
 
+module _ {K T : Type 0} (treat : K → Heard T → K) (P : K → (SwitchId → List T) → Type 0) (each : IsKept treat P) where
   pub begin_kept : (g : Gathered K T) (s : SwitchId) (n : ℕ) (queue : SwitchId → List (Report T)) → IsGathering g →
       P g.known (due g (before s (Begin n) queue)) → P (hears_begin g s n).known (due (hears_begin g s n) queue)
   begin_kept g s n queue gathering holds =
@@ -187,4 +188,5 @@ module _ {K T : Type 0} (treat : K → Heard T → K) (P : K → (SwitchId → L
         P g.known (due g (before s r queue)) → P (hears treat waits after g s r).known (due (hears treat waits after g s r) queue)
     hearing_keeps g s (Begin n) queue gathering everyone holds = begin_kept g s n queue gathering holds
     hearing_keeps g s (End n) queue gathering everyone holds = end_kept g s n queue gathering everyone holds
-    hearing_keeps g s (Tells word) queue gathering everyone holds = word_kept g s word queue holds
+    hearing_keeps g s (Tells word) queue gathering everyone holds =
+        word_kept (treated_alone treat after) P (λ k h d is. then_kept (treat k h) d (each k h d is)) g s word queue holds

@@ -1,4 +1,5 @@
 pub mod Going
+pub mod Acting
 pub mod Hearing
 pub mod Phases
 pub mod Resting

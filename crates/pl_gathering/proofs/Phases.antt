@@ -7,7 +7,7 @@ use Rattle.std.proofs.lemmas.Cmp.{nat_eq_equiv}
 use Rattle.std.proofs.lemmas.Map.Made.{length-le_from_is_member}
 use Rattle.pl_frame.specs.declared.address.SwitchId.{SwitchId}
 use Rattle.pl_layouts.specs.Equality.{same_switch}
-use Rattle.pl_gathering.specs.Gathering.{Gathered, Heard, Report, all_treated, gone_through, hears, hears_begin, hears_end, hears_word, in_turn, is_among, is_whole, kept_of, with_ended}
+use Rattle.pl_gathering.specs.Gathering.{Gathered, Heard, Report, all_treated, gone_through, hears, hears_begin, hears_end, hears_word, in_turn, is_among, is_whole, kept_of, with_ended, treated_alone}
 use Rattle.pl_gathering.specs.Gathering.Report.{Begin, End, Tells}
 use Rattle.pl_gathering.proofs.Going.{kept_both}
 use Rattle.pl_gathering.specs.Orderly.{IsOrderly, has}
@@ -179,4 +179,4 @@ module _ {K T : Type 0} (ids : List SwitchId) (g : Gathered K T) (orderly : IsOr
   pub hearing_orderly : (treat : K → Heard T → K) (waits : T → Bool) (after : K → K) (r : Report T) → IsOrderly ids (hears treat waits after g s r)
   hearing_orderly treat waits after (Begin n) = begin_orderly n
   hearing_orderly treat waits after (End n) = end_orderly treat waits after n
-  hearing_orderly treat waits after (Tells word) = word_orderly treat word
+  hearing_orderly treat waits after (Tells word) = word_orderly (treated_alone treat after) word

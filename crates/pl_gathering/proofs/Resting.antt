@@ -5,7 +5,7 @@ use Rattle.std.proofs.lemmas.Bool.{cases_Bool, cond_both, false≢true, or_parts
 use Rattle.pl_frame.specs.declared.address.SwitchId.{SwitchId}
 use Rattle.pl_layouts.specs.Equality.{same_switch}
 use Rattle.pl_layouts.proofs.Exports.{switch_itself}
-use Rattle.pl_gathering.specs.Gathering.{Gathered, Heard, Report, all_treated, gone_through, hears, hears_begin, hears_end, hears_word, in_turn, is_among, is_whole, with_ended}
+use Rattle.pl_gathering.specs.Gathering.{Gathered, Heard, Report, all_treated, gone_through, hears, hears_begin, hears_end, hears_word, in_turn, is_among, is_whole, with_ended, treated_alone}
 use Rattle.pl_gathering.specs.Gathering.Report.{Begin, End, Tells}
 use Rattle.pl_gathering.specs.Keeping.{before}
 use Rattle.pl_gathering.specs.Orderly.{AreComing, IsOrderly, will_end}
@@ -117,4 +117,4 @@ module _ {K T : Type 0} (ids : List SwitchId) (g : Gathered K T) (silent : Switc
       AreComing ids (hears treat waits after g s r) silent queue
   hearing_coming treat waits after (Begin n) coming = coming_begun n coming
   hearing_coming treat waits after (End n) coming = coming_ended treat waits after n coming
-  hearing_coming treat waits after (Tells word) coming = coming_told treat word coming
+  hearing_coming treat waits after (Tells word) coming = coming_told (treated_alone treat after) word coming

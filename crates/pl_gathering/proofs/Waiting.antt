@@ -4,7 +4,7 @@ use Rattle.std.proofs.Common.{◌≡◌, ℕ, ◌==◌, ◌||◌, ◌&&◌, not,
 use Rattle.std.proofs.lemmas.Bool.{cond-true, cond_both, false≢true, or_parts}
 use Rattle.pl_frame.specs.declared.address.SwitchId.{SwitchId}
 use Rattle.pl_layouts.specs.Equality.{same_switch}
-use Rattle.pl_gathering.specs.Gathering.{Gathered, Heard, Report, all_treated, due, gone_through, hears, hears_begin, hears_end, hears_word, in_turn, is_among, is_whole, with_ended}
+use Rattle.pl_gathering.specs.Gathering.{Gathered, Heard, Report, all_treated, due, gone_through, hears, hears_begin, hears_end, hears_word, in_turn, is_among, is_whole, with_ended, treated_alone}
 use Rattle.pl_gathering.specs.Gathering.Report.{Begin, End, Tells}
 use Rattle.pl_gathering.specs.Keeping.{before}
 use Rattle.pl_gathering.specs.Orderly.{IsGathering}
@@ -71,12 +71,13 @@ module _ {K T : Type 0} (g : Gathered K T) (s : SwitchId) (queue : SwitchId → 
     pub nothing_treated : (r : Report T) → IsGathering g → is_whole g ≡ false → is_whole (hears treat waits after g s r) ≡ false → IsUnchanged r (hears treat waits after g s r)
     nothing_treated (Begin n) gathering part still = begin_unchanged n gathering part
     nothing_treated (End n) gathering part still = end_unchanged n part still
-    nothing_treated (Tells word) gathering part still = word_unchanged treat word part
+    nothing_treated (Tells word) gathering part still = word_unchanged (treated_alone treat after) word part
 
-    -- where all reports were heard, a word is treated at once
-    pub treated_at_once : (word : T) → is_whole g ≡ true → hears_word treat g s word ≡ record g { known = treat g.known (record { switch = s; word = word }) }
+    -- where all reports were heard, a word is treated at once, and then what follows from it
+    pub treated_at_once : (word : T) → is_whole g ≡ true →
+        hears treat waits after g s (Tells word) ≡ record g { known = after (treat g.known (record { switch = s; word = word })) }
     treated_at_once word whole =
-        cond-true (is_whole g) (record g { known = treat g.known (record { switch = s; word = word }) })
+        cond-true (is_whole g) (record g { known = after (treat g.known (record { switch = s; word = word })) })
         (cond (is_among s g.begun) (record g { kept = g.kept ++ record { switch = s; word = word } ∷ [] }) g) whole
 
     -- and no report is missing later
@@ -84,7 +85,7 @@ module _ {K T : Type 0} (g : Gathered K T) (s : SwitchId) (queue : SwitchId → 
     whole_later (Begin n) whole =
         cond_both (is_whole g || (not (n == g.epoch) || is_among s g.begun)) g (record g { begun = s ∷ g.begun }) (λ x. is_whole x ≡ true) (λ not_heard. whole) (λ heard. whole)
     whole_later (Tells word) whole =
-        cond_both (is_whole g) (record g { known = treat g.known (record { switch = s; word = word }) })
+        cond_both (is_whole g) (record g { known = after (treat g.known (record { switch = s; word = word })) })
         (cond (is_among s g.begun) (record g { kept = g.kept ++ record { switch = s; word = word } ∷ [] }) g) (λ x. is_whole x ≡ true)
         (λ is. whole) (λ part. absurd (false≢true (sym part ∙ whole)))
     whole_later (End n) whole =

@@ -64,15 +64,23 @@ hears_end treat waits after g s epoch =
     if is_whole g || (not (epoch == g.epoch && is_among s g.begun) || is_among s g.ended) then g
     else gone_through treat waits after (with_ended s g)
 
+-- a word that comes while a report is missing is kept, where that of its switch has begun
+abbrev pub keeps_word : {K T : Type 0} → Gathered K T → SwitchId → T → Gathered K T
+keeps_word g s word = if is_among s g.begun then record g { kept = g.kept ++ record { switch = s; word = word } ∷ [] } else g
+
 abbrev pub hears_word : {K T : Type 0} → (K → Heard T → K) → Gathered K T → SwitchId → T → Gathered K T
 hears_word treat g s word =
     if is_whole g then record g { known = treat g.known (record { switch = s; word = word }) }
-    else if is_among s g.begun then record g { kept = g.kept ++ record { switch = s; word = word } ∷ [] } else g
+    else keeps_word g s word
+
+-- a word that is heard alone, while no report is missing, is treated, and then what follows from it
+abbrev pub treated_alone : {K T : Type 0} → (K → Heard T → K) → (K → K) → K → Heard T → K
+treated_alone treat after known h = after (treat known h)
 
 abbrev pub hears : {K T : Type 0} → (K → Heard T → K) → (T → Bool) → (K → K) → Gathered K T → SwitchId → Report T → Gathered K T
 hears treat waits after g s (Begin epoch) = hears_begin g s epoch
 hears treat waits after g s (End epoch) = hears_end treat waits after g s epoch
-hears treat waits after g s (Tells word) = hears_word treat g s word
+hears treat waits after g s (Tells word) = hears_word (treated_alone treat after) g s word
 
 -- what a switch tells that hears of an epoch: these words, between `Begin` and `End`
 abbrev pub report : {T : Type 0} → ℕ → List T → List (Report T)

@@ -1,3 +1,4 @@
 pub mod Gathering
+pub mod Acting
 pub mod Keeping
 pub mod Orderly

@@ -1,17 +1,19 @@
 //! Plays a scenario, which comes on standard input, through a part of the fabric manager: each line is one
 //! call of the part, and what the part answers is printed, a line each.
 //!
-//! The first line of a scenario names the part and says what it needs: `fabric K` or `registry`. What can be
-//! said to a part stands in the file of its name. A line that begins with `#` is printed as it is, and with
+//! The first line of a scenario names the part and says what it needs: `fabric K`, `registry` or `gatherer SWITCHES`.
+//! What can be said to a part stands in the file of its name. A line that begins with `#` is printed as it is, and with
 //! `new` another scenario begins.
 #![tactic(auto)]
 
 mod fabric;
+mod gatherer;
 mod naming;
 mod registry;
 mod tree;
 
 use crate::fabric::play_fabric;
+use crate::gatherer::play_gatherer;
 use crate::registry::play_registry;
 use pl_frame::Memory;
 use pl_test_words::{Player, first_word, play_each, say};
@@ -51,6 +53,7 @@ fn play_scenario(
     match part {
         "fabric" => play_fabric(alloc, words, lines, out),
         "registry" => play_registry(alloc, lines, out),
+        "gatherer" => play_gatherer(alloc, words, lines, out),
         _ => say(out, "not understood"),
     }
 }

@@ -70,6 +70,10 @@ impl SwitchFacts for BridgeSwitch {
     fn group(&self, n: usize) -> Option<u32> {
         self.booted.group(n)
     }
+
+    fn epoch(&self) -> u32 {
+        self.booted.epoch()
+    }
 }
 
 impl LearningBridge for BridgeSwitch {

@@ -11,6 +11,7 @@ ghost use Rattle.pl_switch_rule.specs.Granting.{granted, has_no_address, held_he
 ghost use Rattle.pl_switch_rule.specs.Intake.{takes_in};
 ghost use Rattle.pl_switch_rule.specs.Levels.{finds_host};
 ghost use Rattle.pl_switch_rule.specs.Messages.{frees, hears_pod, invalidates, with_part};
+ghost use Rattle.pl_switch_rule.specs.Reporting.{hears_hello};
 ghost use Rattle.pl_switch_rule.specs.SwitchRule.{control_comes};
 
 use pl_edge::{EdgeAct, EdgeTable};
@@ -99,6 +100,13 @@ pub trait KeepsRecords: GroupFacts + UnicastFacts {
     /// The part of a group's tree is replaced, or there is none any more.
     fn hear_tree_part(&mut self, group: u32, part: &Option<TreePart>) -> Result<(), Memory>
         ensures parts { OnOk result (Self.view self.new ≡ record (Self.view self.old) { parts = with_part group part.now (Self.view self.old).parts }) }
+        ensures id { (Self.view self.new).id ≡ (Self.view self.old).id }
+        ensures k { (Self.view self.new).k ≡ (Self.view self.old).k };
+
+    /// A fabric manager begins anew, for the time of this number: the switch forgets its avoid list and all its
+    /// parts of trees, and tells its report.
+    fn hear_hello(&mut self, epoch: u32, out: &mut Outbox) -> Result<(), Memory>
+        ensures taken { OnOk result (IsTaken (hears_hello (Self.view self.old) epoch) (Self.view self.new) out.old out.new) }
         ensures id { (Self.view self.new).id ≡ (Self.view self.old).id }
         ensures k { (Self.view self.new).k ≡ (Self.view self.old).k };
 

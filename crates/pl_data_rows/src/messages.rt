@@ -53,6 +53,7 @@ pub fn hear_manager<S: KeepsRecords>(
             invalidate(switch, *old, to, out)
         }
         ToSwitch::Release(pmac) => switch.release(*pmac, out),
+        ToSwitch::Hello(epoch) => switch.hear_hello(*epoch, out),
     }
 }
 

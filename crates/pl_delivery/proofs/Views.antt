@@ -20,4 +20,5 @@ any_view = record {
   members = [];
   avoid = [];
   parts = [];
+  epoch = 0;
 }

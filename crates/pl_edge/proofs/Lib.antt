@@ -1,4 +1,5 @@
 pub mod Placing
+pub mod Reported
 pub mod AgedHere
 pub mod Noting
 pub mod Taking

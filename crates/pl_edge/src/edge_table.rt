@@ -1,9 +1,10 @@
-ghost use Rattle.std.specs.Prelude.{◌≡◌, ◌<◌, ◌≤◌, None, not, is_some, length, IfOk, OnErr, OnOk};
+ghost use Rattle.std.specs.Prelude.{◌≡◌, ◌<◌, ◌≤◌, ◌++◌, None, not, is_some, length, IfOk, OnErr, OnOk};
 ghost use Rattle.pl_frame.specs.Ethernet.{source_of};
 ghost use Rattle.pl_node.specs.PortRecords.{ports_of_switch};
 ghost use Rattle.pl_node.specs.SwitchViews.{SwitchView};
 ghost use Rattle.pl_steps.specs.Taken.{IsTaken};
 ghost use Rattle.pl_switch_rule.specs.Granting.{grants_remembered, has_no_address, learns_source, remembered_ip};
+ghost use Rattle.pl_switch_rule.specs.Reporting.{addresses_reported, each_told, groups_reported};
 ghost use Rattle.pl_migrate.specs.AddressTables.{edge_at, use_of};
 ghost use Rattle.pl_edge.specs.EdgeViews.{edge_in, granted_by, grantee_by, new_edge, with_source, placed_at, KeepsAddressTable, KeepsEdge, MayBeAt};
 
@@ -105,6 +106,24 @@ impl EdgeTable {
             Some(address_table) => address_table.find(pmac),
             None => None,
         }
+    }
+
+    /// A fabric manager that begins anew is told of each address that is in use, then of each for which a trap
+    /// stands, then of each that rests, by rising port and vmid.
+    pub fn report(&self, out: &mut Outbox) -> Result<(), Memory>
+        ensures { OnOk result ((v : SwitchView) → v.k ≡ self.now.k → out.new ≡ out.old ++ each_told (addresses_reported (edge_in self.now v))) }
+    {
+        match &self.address_table {
+            Some(address_table) => address_table.report(self.k, out),
+            None => Ok(()),
+        }
+    }
+
+    /// And of each group with members, by rising number.
+    pub fn report_groups(&self, out: &mut Outbox) -> Result<(), Memory>
+        ensures { OnOk result (out.new ≡ out.old ++ each_told (groups_reported self.now.members)) }
+    {
+        self.members.report(out)
     }
 
     /// The switch became placed: each source that it remembers is granted an address, by rising port.

@@ -1,6 +1,7 @@
 -- A manager that begins anew in a tree of two switches, computed: what it knows is the list of words that it treated.
 use Rattle.std.specs.Prelude.{◌≡◌, ℕ, ◌==◌, Bool, true, List, [], ◌∷◌, ◌++◌, fold, refl}
 use Rattle.pl_frame.specs.declared.address.SwitchId.{SwitchId}
+use Rattle.pl_gathering.specs.Acting.{Done, steps}
 use Rattle.pl_gathering.specs.Gathering.{Gathered, Heard, Report, due, hears, is_whole, report, restarted}
 use Rattle.pl_gathering.specs.Gathering.Report.{Begin, End, Tells}
 
@@ -15,7 +16,7 @@ treat known h = known ++ (h.switch.0, h.word) ∷ []
 abbrev waits : ℕ → Bool
 waits word = word == 9
 
--- 100 is done once all is treated
+-- 100 is done once what is heard now, or what was kept, is treated
 abbrev after : Treated → Treated
 after known = known ++ (0, 100) ∷ []
 
@@ -36,7 +37,7 @@ at_first = record { many = 2; epoch = 0; begun = []; ended = []; kept = []; know
 abbrev anew : Manager
 anew = restarted [] 1 (heard at_first ((1, Tells 7) ∷ []))
 
-words_are_treated_at_once_at_first : (heard at_first ((1, Tells 7) ∷ (2, Tells 8) ∷ [])).known ≡ (1, 7) ∷ (2, 8) ∷ []
+words_are_treated_at_once_at_first : (heard at_first ((1, Tells 7) ∷ (2, Tells 8) ∷ [])).known ≡ (1, 7) ∷ (0, 100) ∷ (2, 8) ∷ (0, 100) ∷ []
 words_are_treated_at_once_at_first = refl
 
 nothing_is_known_anew : anew.known ≡ []
@@ -81,5 +82,24 @@ nothing_is_kept_then : both_ended.kept ≡ []
 nothing_is_kept_then = refl
 
 -- from then on words are treated at once, and a second `Begin` or `End` changes nothing
-at_once_from_then_on : (heard both_ended ((2, Tells 2) ∷ (1, Begin 1) ∷ (1, End 1) ∷ [])).known ≡ (1, 5) ∷ (1, 6) ∷ (2, 8) ∷ (1, 9) ∷ (0, 100) ∷ (2, 2) ∷ []
+at_once_from_then_on : (heard both_ended ((2, Tells 2) ∷ (1, Begin 1) ∷ (1, End 1) ∷ [])).known ≡ (1, 5) ∷ (1, 6) ∷ (2, 8) ∷ (1, 9) ∷ (0, 100) ∷ (2, 2) ∷ (0, 100) ∷ []
 at_once_from_then_on = refl
+
+-- what it does: a word that is treated says itself, and what follows says 100
+abbrev says : Treated → Heard ℕ → Done Treated ℕ
+says known h = record { known = treat known h; acts = h.word ∷ [] }
+
+abbrev says_behind : Treated → Done Treated ℕ
+says_behind known = record { known = after known; acts = 100 ∷ [] }
+
+abbrev said : Manager → ℕ → Report ℕ → List ℕ
+said g s r = (steps says waits says_behind g (the_switch s) r).acts
+
+nothing_is_said_while_a_report_is_missing : said one_ended 1 (Tells 6) ≡ []
+nothing_is_said_while_a_report_is_missing = refl
+
+all_is_said_at_the_last_end : said (heard one_ended ((2, Begin 1) ∷ (2, Tells 8) ∷ [])) 2 (End 1) ≡ 5 ∷ 6 ∷ 8 ∷ 9 ∷ 100 ∷ []
+all_is_said_at_the_last_end = refl
+
+each_word_is_answered_from_then_on : said both_ended 2 (Tells 2) ≡ 2 ∷ 100 ∷ []
+each_word_is_answered_from_then_on = refl

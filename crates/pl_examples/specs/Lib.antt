@@ -14,6 +14,7 @@ pub mod DropExamples
 pub mod DiscoveryExamples
 pub mod HostExamples
 pub mod GatheringExamples
+pub mod ReportExamples
 pub mod ManagerExamples
 pub mod WorldExamples
 pub mod PendingExamples

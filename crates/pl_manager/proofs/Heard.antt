@@ -1,5 +1,5 @@
 -- Each thing that is done when a word is heard is the step of the manager's rule.
-use Rattle.std.proofs.Common.{◌≡◌, ℕ, Bool, List, [], ◌∷◌, ◌++◌, Option, refl, sym, ap, ◌∙◌, subst, append-nil, Result, Ok, Err, OnOk}
+use Rattle.std.proofs.Common.{◌≡◌, ℕ, Bool, List, [], ◌∷◌, ◌++◌, Option, refl, sym, ap, ◌∙◌, subst, append-nil, ◌⊎◌, inl, inr, Result, Ok, Err, OnOk}
 use Rattle.std.specs.Prelude.{unwrap_or}
 use Rattle.std.specs.BTreeMap.{insert_entry}
 use Rattle.pl_frame.specs.declared.address.Ip4.{Ip4}
@@ -102,6 +102,29 @@ module _ (view : ManagerView) (s : SwitchId) (before after : List ManagerAct) wh
     gained = acts;
     holds = (refl, sym (quiet view (Say s (answer_to asker asker_ip ip (lookup view.learnt ip)) ∷ [])));
   }
+
+  -- what a manager that never began anew passes over
+  begun_heard : (epoch : ℕ) → Gains before before (manager_rule view s (tell.Begin epoch) view)
+  unfolding manager_hears
+  begun_heard epoch = record { items = []; gained = sym (append-nil before); holds = (refl, sym (quiet view [])) }
+
+  ended_heard : (epoch : ℕ) → Gains before before (manager_rule view s (tell.End epoch) view)
+  unfolding manager_hears
+  ended_heard epoch = record { items = []; gained = sym (append-nil before); holds = (refl, sym (quiet view [])) }
+
+  trapped_heard : (old new : Pmac) (number : ℕ) → Gains before before (manager_rule view s (tell.Trapped old new number) view)
+  unfolding manager_hears
+  trapped_heard old new number = record { items = []; gained = sym (append-nil before); holds = (refl, sym (quiet view [])) }
+
+  abbrev IsPassedOver : ToManager → Type 0
+  IsPassedOver says =
+      ((epoch : ℕ) × says ≡ tell.Begin epoch)
+      ⊎ (((epoch : ℕ) × says ≡ tell.End epoch) ⊎ ((old : Pmac) × (new : Pmac) × (number : ℕ) × says ≡ tell.Trapped old new number))
+
+  pub passed_over : (says : ToManager) → IsPassedOver says → Gains before before (manager_rule view s says view)
+  passed_over says (inl e) = subst (λ w. Gains before before (manager_rule view s w view)) (sym e.1) (begun_heard e.0)
+  passed_over says (inr (inl e)) = subst (λ w. Gains before before (manager_rule view s w view)) (sym e.1) (ended_heard e.0)
+  passed_over says (inr (inr e)) = subst (λ w. Gains before before (manager_rule view s w view)) (sym e.3) (trapped_heard e.0 e.1 e.2)
 
 -- ---- by what the code answers
 module _ {T E : Type 0} (result : Result T E) (view : ManagerView) (s : SwitchId) (says : ToManager) (before after : List ManagerAct) where

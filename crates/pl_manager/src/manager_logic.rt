@@ -51,6 +51,7 @@ impl ManagerLogic for Manager {
                 learn(&mut self.registry, switch, pmac, amac, ip, out)
             }
             ToManager::Aged { pmac, number } => age(&mut self.registry, pmac, number, out),
+            ToManager::Begin(_) | ToManager::End(_) | ToManager::Trapped { .. } => Ok(()),
             ToManager::Query {
                 asker,
                 asker_ip,

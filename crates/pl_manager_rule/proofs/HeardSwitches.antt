@@ -69,6 +69,9 @@ reply_heard : (before after : ManagerView) (s : SwitchId) (says : ToManager) →
 reply_heard before after s tell.PodWanted = speaker_heard before s (say.Pod (unwrap_or (pod_given after.pods s) 0))
 reply_heard before after s (tell.Learned pmac amac ip) = learning_heard before s after.learnt pmac amac
 reply_heard before after s (tell.Aged pmac number) = releases_heard before s (hears_aged before.learnt pmac number).acts (aged_releases before.learnt pmac number)
+reply_heard before after s (tell.Begin epoch) = refl
+reply_heard before after s (tell.End epoch) = refl
+reply_heard before after s (tell.Trapped trapped toward numbered) = refl
 reply_heard before after s (tell.Query asker asker_ip ip) = speaker_heard before s (answer_to asker asker_ip ip (lookup after.learnt ip))
 reply_heard before after s (tell.Place place) = refl
 reply_heard before after s (tell.Link u usable) = refl
@@ -195,6 +198,9 @@ reply_numbers : (view : ManagerView) (s : SwitchId) (says : ToManager) →
 reply_numbers view s tell.PodWanted = nothing_numbered view.learnt
 reply_numbers view s (tell.Learned pmac amac ip) = learning_numbers view.learnt (record { switch = s; pmac = pmac; amac = amac; ip = ip })
 reply_numbers view s (tell.Aged pmac number) = aging_numbers view.learnt pmac number
+reply_numbers view s (tell.Begin epoch) = nothing_numbered view.learnt
+reply_numbers view s (tell.End epoch) = nothing_numbered view.learnt
+reply_numbers view s (tell.Trapped trapped toward numbered) = nothing_numbered view.learnt
 reply_numbers view s (tell.Query asker asker_ip ip) = nothing_numbered view.learnt
 reply_numbers view s (tell.Place place) = nothing_numbered view.learnt
 reply_numbers view s (tell.Link u usable) = nothing_numbered view.learnt
@@ -220,6 +226,9 @@ one_more false n = omega arith
 addresses_after : (view : ManagerView) (s : SwitchId) (says : ToManager) → (view_after view s says).learnt.count ≤ view.learnt.count + 1
 addresses_after view s (tell.Learned pmac amac ip) = one_more (is_registered view.learnt.addresses pmac) view.learnt.count
 addresses_after view s (tell.Aged pmac number) = let same = aged_count view.learnt pmac number in omega (arith, same)
+addresses_after view s (tell.Begin epoch) = omega arith
+addresses_after view s (tell.End epoch) = omega arith
+addresses_after view s (tell.Trapped trapped toward numbered) = omega arith
 addresses_after view s (tell.Query asker asker_ip ip) = omega arith
 addresses_after view s (tell.Place place) = omega arith
 addresses_after view s (tell.Link u usable) = omega arith
@@ -229,6 +238,9 @@ addresses_after view s (tell.Members group any) = omega arith
 same_k : (view : ManagerView) (s : SwitchId) (says : ToManager) → (view_after view s says).k ≡ view.k
 same_k view s (tell.Learned pmac amac ip) = refl
 same_k view s (tell.Aged pmac number) = refl
+same_k view s (tell.Begin epoch) = refl
+same_k view s (tell.End epoch) = refl
+same_k view s (tell.Trapped trapped toward numbered) = refl
 same_k view s (tell.Query asker asker_ip ip) = refl
 same_k view s (tell.Place place) = refl
 same_k view s (tell.Link u usable) = refl

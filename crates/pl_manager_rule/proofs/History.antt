@@ -103,6 +103,9 @@ module _ (k : ℕ) where
       by tell.PodWanted = silent (same_switch w.switch s) (value_at id_cmp (known k before).told.places s)
       by (tell.Learned pmac amac ip) = silent (same_switch w.switch s) (value_at id_cmp (known k before).told.places s)
       by (tell.Aged pmac number) = silent (same_switch w.switch s) (value_at id_cmp (known k before).told.places s)
+      by (tell.Begin epoch) = silent (same_switch w.switch s) (value_at id_cmp (known k before).told.places s)
+      by (tell.End epoch) = silent (same_switch w.switch s) (value_at id_cmp (known k before).told.places s)
+      by (tell.Trapped trapped toward numbered) = silent (same_switch w.switch s) (value_at id_cmp (known k before).told.places s)
       by (tell.Query asker asker_ip ip) = silent (same_switch w.switch s) (value_at id_cmp (known k before).told.places s)
       by (tell.Members group any) = silent (same_switch w.switch s) (value_at id_cmp (known k before).told.places s)
 
@@ -125,6 +128,9 @@ module _ (k : ℕ) where
       by tell.PodWanted = silent (same_switch w.switch s) (value_at link_cmp (known k before).told.links (s, u))
       by (tell.Learned pmac amac ip) = silent (same_switch w.switch s) (value_at link_cmp (known k before).told.links (s, u))
       by (tell.Aged pmac number) = silent (same_switch w.switch s) (value_at link_cmp (known k before).told.links (s, u))
+      by (tell.Begin epoch) = silent (same_switch w.switch s) (value_at link_cmp (known k before).told.links (s, u))
+      by (tell.End epoch) = silent (same_switch w.switch s) (value_at link_cmp (known k before).told.links (s, u))
+      by (tell.Trapped trapped toward numbered) = silent (same_switch w.switch s) (value_at link_cmp (known k before).told.links (s, u))
       by (tell.Query asker asker_ip ip) = silent (same_switch w.switch s) (value_at link_cmp (known k before).told.links (s, u))
       by (tell.Members group any) = silent (same_switch w.switch s) (value_at link_cmp (known k before).told.links (s, u))
 
@@ -149,6 +155,9 @@ module _ (k : ℕ) where
       by tell.PodWanted = silent (same_switch w.switch s) (value_at members_cmp (known k before).members (s, group))
       by (tell.Learned pmac amac ip) = silent (same_switch w.switch s) (value_at members_cmp (known k before).members (s, group))
       by (tell.Aged pmac number) = silent (same_switch w.switch s) (value_at members_cmp (known k before).members (s, group))
+      by (tell.Begin epoch) = silent (same_switch w.switch s) (value_at members_cmp (known k before).members (s, group))
+      by (tell.End epoch) = silent (same_switch w.switch s) (value_at members_cmp (known k before).members (s, group))
+      by (tell.Trapped trapped toward numbered) = silent (same_switch w.switch s) (value_at members_cmp (known k before).members (s, group))
       by (tell.Query asker asker_ip ip) = silent (same_switch w.switch s) (value_at members_cmp (known k before).members (s, group))
 
   -- ---- pods and registrations
@@ -163,6 +172,9 @@ module _ (k : ℕ) where
       by (tell.Link u usable) = refl
       by (tell.Learned pmac amac ip) = refl
       by (tell.Aged pmac number) = refl
+      by (tell.Begin epoch) = refl
+      by (tell.End epoch) = refl
+      by (tell.Trapped trapped toward numbered) = refl
       by (tell.Query asker asker_ip ip) = refl
       by (tell.Members group any) = refl
 
@@ -192,6 +204,9 @@ module _ (k : ℕ) where
   registered_by before s tell.PodWanted = quiet_left before s tell.PodWanted (λ pmac n is. absurd (cc is))
   registered_by before s (tell.Place place) = quiet_left before s (tell.Place place) (λ pmac n is. absurd (cc is))
   registered_by before s (tell.Link u usable) = quiet_left before s (tell.Link u usable) (λ pmac n is. absurd (cc is))
+  registered_by before s (tell.Begin epoch) = quiet_left before s (tell.Begin epoch) (λ pmac n is. absurd (cc is))
+  registered_by before s (tell.End epoch) = quiet_left before s (tell.End epoch) (λ pmac n is. absurd (cc is))
+  registered_by before s (tell.Trapped trapped toward numbered) = quiet_left before s (tell.Trapped trapped toward numbered) (λ pmac n is. absurd (cc is))
   registered_by before s (tell.Query asker asker_ip ip) = quiet_left before s (tell.Query asker asker_ip ip) (λ pmac n is. absurd (cc is))
   registered_by before s (tell.Members group any) = quiet_left before s (tell.Members group any) (λ pmac n is. absurd (cc is))
   registered_by before s (tell.Learned pmac amac ip) =
@@ -235,6 +250,9 @@ module _ (k : ℕ) where
       by rest tell.PodWanted = rest
       by rest (tell.Place place) = rest
       by rest (tell.Link u usable) = rest
+      by rest (tell.Begin epoch) = rest
+      by rest (tell.End epoch) = rest
+      by rest (tell.Trapped trapped toward numbered) = rest
       by rest (tell.Query asker asker_ip ip) = rest
       by rest (tell.Members group any) = rest
       by rest (tell.Aged pmac n) = rest ∙ sym (aged_count (known k before).learnt pmac n)
@@ -255,6 +273,9 @@ module _ (k : ℕ) where
       by rest tell.PodWanted = rest
       by rest (tell.Place place) = rest
       by rest (tell.Link u usable) = rest
+      by rest (tell.Begin epoch) = rest
+      by rest (tell.End epoch) = rest
+      by rest (tell.Trapped trapped toward numbered) = rest
       by rest (tell.Query asker asker_ip ip) = rest
       by rest (tell.Members group any) = rest
       by rest (tell.Aged pmac n) = rest
@@ -388,6 +409,9 @@ module _ (k : ℕ) where
       by tell.PodWanted is = left (λ pmac n other. absurd (cc (sym is ∙ other))) (ip_of learnt x)
       by (tell.Place place) is = left (λ pmac n other. absurd (cc (sym is ∙ other))) (ip_of learnt x)
       by (tell.Link u usable) is = left (λ pmac n other. absurd (cc (sym is ∙ other))) (ip_of learnt x)
+      by (tell.Begin epoch) is = left (λ pmac n other. absurd (cc (sym is ∙ other))) (ip_of learnt x)
+      by (tell.End epoch) is = left (λ pmac n other. absurd (cc (sym is ∙ other))) (ip_of learnt x)
+      by (tell.Trapped trapped toward numbered) is = left (λ pmac n other. absurd (cc (sym is ∙ other))) (ip_of learnt x)
       by (tell.Query asker asker_ip ip) is = left (λ pmac n other. absurd (cc (sym is ∙ other))) (ip_of learnt x)
       by (tell.Members group any) is = left (λ pmac n other. absurd (cc (sym is ∙ other))) (ip_of learnt x)
       by (tell.Learned pmac amac ip) is =
@@ -414,5 +438,8 @@ module _ (k : ℕ) where
       by tell.PodWanted = refl
       by (tell.Place place) = refl
       by (tell.Link u usable) = refl
+      by (tell.Begin epoch) = refl
+      by (tell.End epoch) = refl
+      by (tell.Trapped trapped toward numbered) = refl
       by (tell.Query asker asker_ip other) = refl
       by (tell.Members group any) = refl

@@ -125,6 +125,9 @@ kept view s (tell.Aged pmac number) o = record {
   addresses = aged_once view.learnt pmac number o.addresses;
   owners = subst (λ owners. IsStrictlySortedBy ip_cmp (keys_of owners)) (sym (aged_owners view.learnt pmac number)) o.owners;
 }
+kept view s (tell.Begin epoch) o = o
+kept view s (tell.End epoch) o = o
+kept view s (tell.Trapped trapped toward numbered) o = o
 kept view s (tell.Query asker asker_ip ip) o = o
 kept view s (tell.Members group any) o = record {
   places = o.places;

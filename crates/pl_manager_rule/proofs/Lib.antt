@@ -12,6 +12,7 @@ pub mod Kept
 pub mod Repeated
 pub mod ToldLast
 pub mod Releases
+pub mod Treating
 pub mod History
 pub mod Newest
 pub mod Exports

@@ -411,6 +411,9 @@ module _ (k : ℕ) where
       by all tell.PodWanted = all
       by all (tell.Place place) = all
       by all (tell.Link u usable) = all
+      by all (tell.Begin epoch) = all
+      by all (tell.End epoch) = all
+      by all (tell.Trapped trapped toward numbered) = all
       by all (tell.Query asker asker_ip ip) = all
       by all (tell.Members group any) = all
       by all (tell.Aged x n) = subst (λ m. are_below m (numbered k before)) (sym (aged_count learnt x n)) all
@@ -439,6 +442,9 @@ module _ (k : ℕ) where
       by rest tell.PodWanted = rest
       by rest (tell.Place place) = rest
       by rest (tell.Link u usable) = rest
+      by rest (tell.Begin epoch) = rest
+      by rest (tell.End epoch) = rest
+      by rest (tell.Trapped trapped toward numbered) = rest
       by rest (tell.Query asker asker_ip ip) = rest
       by rest (tell.Members group any) = rest
       by rest (tell.Aged x n) = aged_keeps (λ l. IsNewest l last) (λ l y is. newest_ages l y last is) (λ l y is. newest_goes l y last is) learnt x n rest

@@ -122,6 +122,9 @@ module _ (before after : ManagerView) (x : Pmac) where
       cond_both (list_any (λ r. same_pmac r.pmac pmac) (registry before.learnt)) [] (Number pmac n ∷ invalidation after.learnt pmac n (newest before.learnt amac))
       (λ acts. list_any (releases_address x) acts ≡ false) (λ again. refl) (λ fresh. invalidation_none after.learnt pmac n (newest before.learnt amac))
   reply_releases_none s (tell.Aged pmac n) other = absurd (other pmac n refl)
+  reply_releases_none s (tell.Begin epoch) other = refl
+  reply_releases_none s (tell.End epoch) other = refl
+  reply_releases_none s (tell.Trapped trapped toward numbered) other = refl
   reply_releases_none s (tell.Query asker asker_ip ip) other = answer_none s asker asker_ip ip (lookup after.learnt ip)
   reply_releases_none s (tell.Members group any) other = refl
 

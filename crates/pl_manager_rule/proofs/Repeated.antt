@@ -200,6 +200,9 @@ view_same view s tell.PodWanted order last =
     ap (λ b. record view { pods = cond b view.pods (new ∷ view.pods) }) (found_any (λ g. g.pod) (λ g. same_switch g.switch s) view.pods last)
 view_same view s (tell.Learned pmac amac ip) order last = ap (λ learnt. record view { learnt = learnt }) (told_same view s pmac amac ip order last.0 last.1)
 view_same view s (tell.Aged pmac number) order last = ap (λ learnt. record view { learnt = learnt }) (ap (λ (step : LearntStep). step.learnt) (aged_same view.learnt pmac number order.addresses last))
+view_same view s (tell.Begin epoch) order last = refl
+view_same view s (tell.End epoch) order last = refl
+view_same view s (tell.Trapped trapped toward numbered) order last = refl
 view_same view s (tell.Query asker asker_ip ip) order last = refl
 view_same view s (tell.Members group any) order last =
     ap (λ table. record view { members = table }) (put_again members_cmp members_total members_exact view.members (s, group) any order.members last)
@@ -213,6 +216,9 @@ only_answers view s (tell.Learned pmac amac ip) order last =
     ap (λ b. cond b [] (Number pmac n ∷ invalidation view.learnt pmac n (newest view.learnt amac)))
     (any_where_found (λ r. same_pmac r.pmac pmac) (registry view.learnt) last.0)
 only_answers view s (tell.Aged pmac number) order last = ap (λ (step : LearntStep). step.acts) (aged_same view.learnt pmac number order.addresses last)
+only_answers view s (tell.Begin epoch) order last = refl
+only_answers view s (tell.End epoch) order last = refl
+only_answers view s (tell.Trapped trapped toward numbered) order last = refl
 only_answers view s (tell.Query asker asker_ip ip) order last = refl
 only_answers view s (tell.Members group any) order last = refl
 

@@ -123,6 +123,9 @@ module _ (view : ManagerView) (s : SwitchId) where
       with_one places links members askers _ (same_ones s places)
       (same_ones s links) (same_ones s members) (same_ones s askers)
       (λ t h. inr (aged_tellers view.learnt pmac number t h))
+  speakers_after (tell.Begin epoch) = same_ones s (speakers view)
+  speakers_after (tell.End epoch) = same_ones s (speakers view)
+  speakers_after (tell.Trapped trapped toward numbered) = same_ones s (speakers view)
   speakers_after (tell.Query asker asker_ip ip) = same_ones s (speakers view)
   speakers_after (tell.Members group any) =
       with_one places links _ askers learners (same_ones s places)

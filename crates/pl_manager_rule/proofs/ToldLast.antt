@@ -75,6 +75,9 @@ last_now view s (tell.Learned pmac amac ip) can = (
   known_now view.learnt s pmac amac ip,
 )
 last_now view s (tell.Aged pmac number) can = absurd can
+last_now view s (tell.Begin epoch) can = tt
+last_now view s (tell.End epoch) can = tt
+last_now view s (tell.Trapped trapped toward numbered) can = tt
 last_now view s (tell.Query asker asker_ip ip) can = tt
 last_now view s (tell.Members group any) can = value_put members_cmp members_total view.members (s, group) any
 

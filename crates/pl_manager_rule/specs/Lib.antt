@@ -1,4 +1,5 @@
 pub mod ManagerRule
+pub mod Treating
 pub mod Repeats
 pub mod Lawful
 pub mod Histories

@@ -151,6 +151,9 @@ view_after view s tell.PodWanted = record view { pods = with_asker view.told vie
 view_after view s (tell.Learned pmac amac ip) =
     record view { learnt = with_learnt view.learnt (record { switch = s; pmac = pmac; amac = amac; ip = ip }) }
 view_after view s (tell.Aged pmac number) = record view { learnt = (hears_aged view.learnt pmac number).learnt }
+view_after view s (tell.Begin epoch) = view
+view_after view s (tell.End epoch) = view
+view_after view s (tell.Trapped old new number) = view
 view_after view s (tell.Query asker asker_ip ip) = view
 view_after view s (tell.Members group any) = record view { members = insert_entry members_cmp view.members (s, group) any }
 

@@ -55,6 +55,9 @@ HasToldLast view s (tell.Link u usable) = value_at link_cmp view.told.links (s, 
 HasToldLast view s tell.PodWanted = IsSome (pod_given view.pods s)
 HasToldLast view s (tell.Learned pmac amac ip) = IsSome (registration view.learnt pmac) × IsKnownAddress view.learnt pmac ip
 HasToldLast view s (tell.Aged pmac number) = counts view.learnt pmac number ≡ true → IsCounted view.learnt pmac
+HasToldLast view s (tell.Begin epoch) = Unit {0}
+HasToldLast view s (tell.End epoch) = Unit {0}
+HasToldLast view s (tell.Trapped old new number) = Unit {0}
 HasToldLast view s (tell.Query asker asker_ip ip) = Unit {0}
 HasToldLast view s (tell.Members group any) = value_at members_cmp view.members (s, group) ≡ Some any
 

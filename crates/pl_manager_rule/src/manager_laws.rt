@@ -1,4 +1,4 @@
-ghost use Rattle.std.specs.Prelude.{◌≡◌, ◌≢◌, ◌↔◌, ◌<◌, ℕ, List, Contains, reverse, find, map, Option, Some, None, IfSome, IsSome, IsTrue, true};
+ghost use Rattle.std.specs.Prelude.{◌≡◌, ◌≢◌, ◌↔◌, ◌<◌, [], ◌∷◌, ℕ, List, Contains, reverse, find, map, Option, Some, None, IfSome, IsSome, IsTrue, true};
 ghost use Rattle.std.specs.List.{IsDistinct, range_with_len};
 ghost use Rattle.std.specs.List.Sorted.{IsStrictlySortedBy};
 ghost use Rattle.std.specs.Option.{option_and_then};
@@ -15,6 +15,8 @@ ghost use Rattle.pl_frame.specs.declared.address.Ip4.{Ip4};
 ghost use Rattle.pl_frame.specs.declared.address.Mac.{Mac};
 ghost use Rattle.pl_pmac.specs.declared.pmac.Pmac.{Pmac};
 ghost use Rattle.pl_manager_rule.specs.Histories.{Word, if_still, ip_since, known, link_said, members_said, numbered, owner_told, place_said, pods_asked, registered, said_by, said_last};
+ghost use Rattle.pl_gathering.specs.Acting.{treats_all};
+ghost use Rattle.pl_manager_rule.specs.Treating.{at_rest, follows, treats};
 ghost use Rattle.pl_manager_rule.specs.Repeats.{CanBeRepeated, HasToldLast, TablesAreInOrder, answers};
 ghost use Rattle.pl_node.specs.declared.messages.ToManager.{ToManager};
 ghost use Rattle.pl_node.specs.ManagerFacts.{groups};
@@ -91,6 +93,12 @@ pub fn a_repeated_word_changes_nothing()
     ensures nothing { (view : ManagerView) (s : SwitchId) (says : ToManager) → TablesAreInOrder view → HasToldLast view s says →
         manager_hears view s says ≡ record { view = view; acts = answers view s says } }
     ensures last { (view : ManagerView) (s : SwitchId) (says : ToManager) → CanBeRepeated says → HasToldLast (manager_hears view s says).view s says }
+{}
+
+/// A word that is treated alone, and what follows from it, are what the manager does when it hears that word.
+pub fn a_word_is_treated_alone_as_it_is_heard()
+    ensures { (view : ManagerView) (s : SwitchId) (says : ToManager) → treats_all treats follows (at_rest view) (record { switch = s; word = says } ∷ [])
+        ≡ record { known = at_rest (manager_hears view s says).view; acts = (manager_hears view s says).acts } }
 {}
 
 /// What the manager knows, however long its history, is the last that was said of each place, link and group;

@@ -70,16 +70,17 @@ unfolding IsStrictlySortedBy
 groups_come [] rise = refl
 groups_come (m ∷ ms) rise = noted_from [] m.group ms tt (from_less m ms rise.0) rise.1
 
+pub apart_from : (k : ℕ) (m : Member) (g : ℕ) → g ≡ m.group → not (option_eq eqb (Some k) (Some g)) ≡ true → (k == m.group) ≡ false
+apart_from k m g is new = elim (k == g) as (λ b. (k == g) ≡ b → not b ≡ true → (k == m.group) ≡ false) [
+  | true ↦ λ e h. absurd (true≢false (sym h))
+  | false ↦ λ e h. ap (λ n. k == n) (sym is) ∙ e
+] refl new
+
 -- the next group is not the last one
 pub next_group : (last : Option ℕ) (m : Member) (rest : List Member) (g : ℕ) → g ≡ m.group → not (option_eq eqb last (Some g)) ≡ true →
     Some g ≡ slice_get (groups_behind last (m ∷ rest)) 0
 next_group None m rest g is new = ap (λ n. Some n) is
-next_group (Some k) m rest g is new =
-    let apart : (k == m.group) ≡ false = elim (k == g) as (λ b. (k == g) ≡ b → not b ≡ true → (k == m.group) ≡ false) [
-      | true ↦ λ e h. absurd (true≢false (sym h))
-      | false ↦ λ e h. ap (λ n. k == n) (sym is) ∙ e
-    ] refl new in
-    rw apart (ap (λ n. Some n) is)
+next_group (Some k) m rest g is new = rw (apart_from k m g is new) (ap (λ n. Some n) is)
 
 pub counted : (items keys members : List Member) (n : ℕ) → items ≡ keys → keys ≡ members → IsStrictlySortedBy member_cmp keys →
     slice_get (groups_behind None items) n ≡ slice_get (groups_of members) n

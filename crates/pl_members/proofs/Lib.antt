@@ -1,4 +1,5 @@
 pub mod Comparing
+pub mod Reported
 pub mod Removing
 pub mod Reaching
 pub mod Grouping

@@ -1,13 +1,14 @@
-ghost use Rattle.std.specs.Prelude.{◌≡◌, ◌<◌, ◌==◌, ◌&&◌, ℕ, [], not, OnOk, OnErr, slice_get};
+ghost use Rattle.std.specs.Prelude.{◌≡◌, ◌<◌, ◌==◌, ◌&&◌, ◌++◌, ℕ, [], not, OnOk, OnErr, slice_get};
 ghost use Rattle.std.specs.List.{filter, list_any};
 ghost use Rattle.pl_node.specs.declared.switch_records.Member.{Member};
 ghost use Rattle.pl_lists.specs.Ports.{ports_of};
 ghost use Rattle.pl_members.specs.Reached.{end_of, has_member_at, ports_with_member, start_of};
+ghost use Rattle.pl_switch_rule.specs.Reporting.{each_told, groups_reported};
 ghost use Rattle.pl_switch_rule.specs.Intake.{groups_of, has_member_of, is_member, joins, leaves};
 
 use crate::ranked_member::RankedMember;
 use pl_frame::Mac;
-use pl_node::{Member, Memory, PortSet};
+use pl_node::{Act, Member, Memory, Outbox, PortSet, ToManager};
 use std::alloc::Global;
 use std::collections::BTreeSet;
 use std::marker::Model;
@@ -86,6 +87,21 @@ impl Members {
             .range(start_of(group)..end_of(group))
             .next()
             .is_some()
+    }
+
+    /// The fabric manager is told of each group with members, by rising number.
+    pub fn report(&self, out: &mut Outbox) -> Result<(), Memory>
+        ensures { OnOk result (out.new ≡ out.old ++ each_told (groups_reported self.now)) }
+    {
+        let mut last = None;
+        for member in self.members.iter() {
+            let group = member.group();
+            if last != Some(group) {
+                out.push(Act::Tell(ToManager::Members { group, any: true }))?;
+                last = Some(group);
+            }
+        }
+        Ok(())
     }
 
     /// Group number n, rising and counted from 0, of those that have members; none exactly past the last.

@@ -72,6 +72,7 @@ any_switch = record {
   members = [];
   avoid = [];
   parts = [];
+  epoch = 0;
 }
 
 pub bare_of_view : (new : AddressTableView) (w : SwitchView) (pod position : ℕ) (grants : List (List Grant)) → address_table_in new any_switch ≡ w →

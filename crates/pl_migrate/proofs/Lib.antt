@@ -22,6 +22,7 @@ pub mod OneEach
 pub mod Pairs
 pub mod Placed
 pub mod PortUses
+pub mod Reported
 pub mod Stands
 pub mod Uses
 pub mod Views

@@ -4,3 +4,4 @@ pub mod PortGrants
 pub mod Standings
 pub mod Keeping
 pub mod Orders
+pub mod Reports

@@ -1,4 +1,4 @@
-ghost use Rattle.std.specs.Prelude.{◌≡◌, ◌≢◌, ◌↔◌, ◌<◌, ◌∷◌, ◌++◌, [], ℕ, Err, false, true, IfOk, IfSome, IsSome, IsTrue, None, Ok, OnErr, OnOk, Some, length};
+ghost use Rattle.std.specs.Prelude.{◌≡◌, ◌≢◌, ◌↔◌, ◌<◌, ◌≤◌, ◌∷◌, ◌++◌, [], ℕ, Err, false, true, IfOk, IfSome, IsSome, IsTrue, None, Ok, OnErr, OnOk, Some, length};
 ghost use Rattle.std.specs.List.{sum_by};
 ghost use Rattle.pl_frame.specs.declared.address.Mac.{Mac};
 ghost use Rattle.pl_pmac.specs.declared.pmac.Pmac.{Pmac};
@@ -337,7 +337,7 @@ impl AddressTable {
 }
 
 impl AddressTable {
-    fn address(&self, port: u8, vmid: u16) -> Pmac
+    pub(crate) fn address(&self, port: u8, vmid: u16) -> Pmac
         ensures { result ≡ address_in self.now port vmid }
     {
         Pmac {
@@ -365,7 +365,7 @@ impl AddressTable {
         requires { port < length self.now.grants }
         ensures { result ≡ numbered self.now port (next_vmid [] (grants_of self.now port)) }
     {
-        let given = self.ports[usize::from(port)].len();
+        let given = self.given(port);
         if given < 65535 {
             Some(self.address(port, given as u16 + 1))
         } else {
@@ -511,6 +511,15 @@ impl AddressTable {
             };
             change(&mut self.ports, &mut self.orders, pmac, tenancy, new);
         }
+    }
+
+    // How many addresses were granted at a port.
+    pub(crate) fn given(&self, port: u8) -> usize
+        requires { port < length self.now.grants }
+        ensures many { result ≡ length (grants_of self.now port) }
+        ensures within { result ≤ 65535 }
+    {
+        self.ports[usize::from(port)].len()
     }
 
     // How many addresses were granted.

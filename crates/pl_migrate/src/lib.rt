@@ -22,4 +22,5 @@ mod error;
 mod grantee;
 mod orders;
 mod port_grants;
+mod reporting;
 mod tenancy;

@@ -41,6 +41,7 @@ switch_at_boot id k = record {
   members = [];
   avoid = [];
   parts = [];
+  epoch = 0;
 }
 
 -- the frame is the message that the switch would send out of that port now

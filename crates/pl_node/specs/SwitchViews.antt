@@ -37,3 +37,5 @@ pub record SwitchView : Type 0 where
   pub avoid : List (SwitchId × ℕ × ℕ)
   -- by group, rising
   pub parts : List (ℕ × TreePart)
+  -- how often the fabric manager began anew, as far as this switch heard
+  pub epoch : ℕ

@@ -27,6 +27,16 @@ pub enum ToManager {
         pmac: Pmac,
         number: u64,
     },
+    /// A manager began anew, for the time of this number: what follows is all that it has to know of this switch.
+    Begin(u32),
+    /// That was all.
+    End(u32),
+    /// A trap of this number stands for an address, and leads to a newer one.
+    Trapped {
+        old: Pmac,
+        new: Pmac,
+        number: u64,
+    },
     /// A host asks who has an IPv4 address.
     Query {
         asker: Pmac,
@@ -69,6 +79,8 @@ pub enum ToSwitch {
     },
     /// An address that it told to have aged is nobody's from now on: no trap leads to it.
     Release(Pmac),
+    /// The manager begins anew, for the time of this number, and knows nothing.
+    Hello(u32),
     /// Its part of a group's tree; none where it has no part.
     Tree {
         group: u32,

@@ -66,6 +66,10 @@ pub trait SwitchFacts: Drop {
     /// Group number n, rising, of those of which a part is known; none past the last.
     fn group(&self, n: usize) -> Option<u32>
         ensures { result ≡ group_of_part (view self.now) n };
+
+    /// How often the fabric manager began anew, as far as this switch heard.
+    fn epoch(&self) -> u32
+        ensures { result ≡ (view self.now).epoch };
 }
 
 /// The software of a switch: what it does with what comes. Each call is one step, and puts its acts

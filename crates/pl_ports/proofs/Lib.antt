@@ -4,5 +4,6 @@ pub mod LevelsShown
 pub mod LinksTold
 pub mod PodsTold
 pub mod PortSets
+pub mod Reported
 pub mod Tables
 pub mod Exports

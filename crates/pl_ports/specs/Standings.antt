@@ -19,3 +19,7 @@ pub record IsStandingOf (standing : Standing) (v : SwitchView) : Type 0 where
 abbrev pub link_told_since : PortSet → SwitchView → ℕ → List Act
 link_told_since usable new port =
     if are_alike (list_any (λ p. p == port) (ports_of usable)) (is_usable new port) then [] else link_to (id_at new port) (is_usable new port)
+
+-- the link at a port, whatever was told of it before
+abbrev pub link_known : SwitchView → ℕ → List Act
+link_known v port = link_to (id_at v port) (is_usable v port)

@@ -17,5 +17,6 @@ mod hearing;
 mod learning;
 mod level_laws;
 mod ports;
+mod reporting;
 mod standing;
 mod telling;

@@ -56,6 +56,10 @@ impl KeepsRecords for ReferenceSwitch {
         self.state.hear_tree_part(group, part)
     }
 
+    fn hear_hello(&mut self, epoch: u32, out: &mut Outbox) -> Result<(), Memory> {
+        self.state.hear_hello(epoch, out)
+    }
+
     fn control_comes(&mut self, port: u8, frame: &[u8], out: &mut Outbox) -> Result<(), Memory> {
         self.state.control_comes(port, frame, out)
     }

@@ -63,6 +63,10 @@ impl SwitchFacts for ReferenceSwitch {
     fn group(&self, n: usize) -> Option<u32> {
         self.state.group(n)
     }
+
+    fn epoch(&self) -> u32 {
+        self.state.epoch()
+    }
 }
 
 impl GroupFacts for ReferenceSwitch {

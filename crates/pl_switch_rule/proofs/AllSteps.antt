@@ -4,7 +4,7 @@ use Rattle.std.proofs.lemmas.Bool.{cases_Bool}
 use Rattle.pl_frame.specs.declared.address.Ip4.{Ip4}
 use Rattle.pl_pmac.specs.declared.pmac.Pmac.{Pmac}
 use Rattle.pl_node.specs.declared.messages.ToSwitch.{ToSwitch}
-use Rattle.pl_node.specs.declared.messages.ToSwitch.TheVariants.{Answer, Avoid, Flood, Invalidate, Pod, Release, Tree}
+use Rattle.pl_node.specs.declared.messages.ToSwitch.TheVariants.{Answer, Avoid, Flood, Hello, Invalidate, Pod, Release, Tree}
 use Rattle.pl_switch_rule.specs.Forwarding.{Choice}
 use Rattle.pl_node.specs.Accounting.{AccountsForFrames, CanCome, IsComing, IsAccounted, IsShaped}
 use Rattle.pl_switch_rule.specs.SwitchRule.{Exact, IsChoice, Loose, StepsBy, by_flow, data_comes, switch_step}
@@ -12,7 +12,7 @@ use Rattle.pl_node.specs.SwitchInputs.{SwitchInput}
 use Rattle.pl_node.specs.SwitchInputs.SwitchInput.{Comes, Says, Tick}
 use Rattle.pl_node.specs.SwitchViews.{SwitchView}
 use Rattle.pl_switch_rule.proofs.StepParts.{IsEnding}
-use Rattle.pl_switch_rule.proofs.ControlSteps.{accounted_avoid, accounted_control, accounted_data, accounted_pod, accounted_tree}
+use Rattle.pl_switch_rule.proofs.ControlSteps.{accounted_avoid, accounted_control, accounted_data, accounted_hello, accounted_pod, accounted_tree}
 use Rattle.pl_layouts.specs.Control.{is_control}
 
 -- the step on an input accounts for its frames
@@ -43,6 +43,7 @@ says_accounted choose h v (Answer asker asker_ip ip pmac) s = h.answer v asker a
 says_accounted choose h v (Flood asker asker_ip ip) s = h.flood v asker asker_ip ip s
 says_accounted choose h v (Invalidate old new number ip) s = h.invalidate v old new number ip s
 says_accounted choose h v (Release address) s = h.release v address s
+says_accounted choose h v (Hello epoch) s = accounted_hello choose v epoch s
 
 pub accounted_step : (choose : Choice) → HandlesFrames choose → (v : SwitchView) (input : SwitchInput) → IsShaped v → CanCome v input → IsAccountedStep choose v input
 accounted_step choose h v (Comes port frame) s can = comes_accounted choose h v port frame s can

@@ -16,7 +16,7 @@ use Rattle.pl_node.specs.AddressUses.{is_in_use}
 use Rattle.pl_node.specs.declared.switch_records.Grant.{Grant}
 use Rattle.pl_node.specs.SwitchViews.{SwitchView}
 use Rattle.pl_node.specs.declared.messages.ToSwitch.{ToSwitch}
-use Rattle.pl_node.specs.declared.messages.ToSwitch.TheVariants.{Answer, Avoid, Flood, Invalidate, Pod, Release, Tree}
+use Rattle.pl_node.specs.declared.messages.ToSwitch.TheVariants.{Answer, Avoid, Flood, Hello, Invalidate, Pod, Release, Tree}
 use Rattle.pl_node.specs.declared.trap.Trap.{Trap}
 use Rattle.pl_journal.specs.declared.cause.Cause.{Cause}
 use Rattle.pl_journal.specs.declared.cause.Cause.TheVariants.{NoNextHop}
@@ -35,6 +35,7 @@ use Rattle.pl_switch_rule.specs.GroupForwarding.{destination_group, forwards_gro
 use Rattle.pl_switch_rule.specs.Intake.{is_member}
 use Rattle.pl_switch_rule.specs.Levels.{changes_to, with_pod}
 use Rattle.pl_switch_rule.specs.Messages.{answer_frame, flood_frame, floods, forgets_members, frees, hears_manager, hears_pod, invalidates, probes, probes_at, sets_trap, takes_pod}
+use Rattle.pl_switch_rule.specs.Reporting.{hears_hello}
 use Rattle.pl_steps.specs.Steps.{SwitchStep, rests}
 use Rattle.pl_switch_rule.specs.SwitchRule.{Exact, IsChoice, Loose, control_comes, data_comes, switch_step}
 use Rattle.pl_switch_rule.proofs.AccountedSteps.{exact_is_loose}
@@ -43,6 +44,7 @@ use Rattle.pl_switch_rule.proofs.CausesOfData.{data_drops_for, passes_cause, pas
 use Rattle.pl_switch_rule.proofs.SentFrames.{number_to}
 use Rattle.pl_switch_rule.proofs.FirstCauses.{drops_behind, drops_made, drops_none, drops_nothing}
 use Rattle.pl_switch_rule.proofs.RowActs.{ChangeActs, frees_acts, groups_acts}
+use Rattle.pl_switch_rule.proofs.ReportParts.{hello_acts}
 use Rattle.pl_switch_rule.proofs.StepActs.{control_acts, ticks_acts}
 use Rattle.pl_switch_rule.proofs.FirstDrops.{AllGoOn, GoesOn}
 use Rattle.pl_switch_rule.proofs.LearntSources.{hears_changes_to}
@@ -128,6 +130,10 @@ says_drops_for choose v (Invalidate old new number ip) is_choice =
     invalidate_drops_for v old (record { new = new; number = number; ip = ip }) (held_here v old)
 says_drops_for choose v (Release address) is_choice =
     drops_nothing (frees v address (granted v address)).acts (frees_acts GoesOn (λ x. tt) v address (granted v address))
+says_drops_for choose v (Hello epoch) is_choice =
+    drops_nothing (hears_hello v epoch).acts
+    (hello_acts GoesOn v (record { granted = λ address amac. tt; learnt = λ address amac ip. tt }) (λ address number. tt)
+    (record { begun = λ n. tt; ended = λ n. tt; trapped = λ old new number. tt }) (change_goes_on v.place) (λ group had. tt) epoch)
 
 -- Each step.
 

@@ -1,11 +1,11 @@
--- The steps in which no data frame comes or is made account for all frames: a control frame, and three messages of the manager.
+-- The steps in which no data frame comes or is made account for all frames: a control frame, and four messages of the manager.
 use Rattle.std.proofs.Common.{◌≡◌, ◌<◌, ℕ, true, false, if◌then◌else◌, List, Option, Result, Ok, Err, refl, sym, ap, subst, ◌∙◌, inl, inr}
 use Rattle.pl_frame.specs.declared.address.SwitchId.{SwitchId}
 use Rattle.pl_frame.specs.Ethernet.{payload_of}
 use Rattle.pl_layouts.specs.declared.control.Control.{Control}
 use Rattle.pl_layouts.specs.declared.control.Control.TheVariants as control
 use Rattle.pl_layouts.specs.declared.control.ControlError.{ControlError}
-use Rattle.pl_node.specs.declared.messages.ToSwitch.TheVariants.{Avoid, Pod, Tree}
+use Rattle.pl_node.specs.declared.messages.ToSwitch.TheVariants.{Avoid, Hello, Pod, Tree}
 use Rattle.pl_node.specs.declared.messages.TreePart.{TreePart}
 use Rattle.pl_layouts.specs.Control.{control_in, is_control}
 use Rattle.pl_switch_rule.specs.Forwarding.{Choice}
@@ -14,6 +14,7 @@ use Rattle.pl_node.specs.Accounting.FrameState.{Silent, Waiting}
 use Rattle.pl_switch_rule.specs.Messages.{hears_pod, with_part}
 use Rattle.pl_node.specs.PortRecords.{port_of}
 use Rattle.pl_switch_rule.specs.Positions.{after_vote}
+use Rattle.pl_switch_rule.specs.Reporting.{hears_hello}
 use Rattle.pl_steps.specs.Steps.{SwitchStep, rests}
 use Rattle.pl_switch_rule.specs.SwitchRule.{control_comes, data_comes, hears_control, switch_step}
 use Rattle.pl_node.specs.SwitchInputs.{SwitchInput}
@@ -24,7 +25,7 @@ use Rattle.pl_switch_rule.proofs.QuietActs.{quiet_either, quiet_self}
 use Rattle.pl_switch_rule.proofs.LevelParts.{quiet_changes_to, quiet_hears_message}
 use Rattle.pl_switch_rule.proofs.PositionParts.{same_after_vote}
 use Rattle.pl_switch_rule.proofs.ControlParts.{quiet_hears_proposal}
-use Rattle.pl_switch_rule.proofs.MessageParts.{quiet_hears_pod, quiet_with_avoid, quiet_with_part}
+use Rattle.pl_switch_rule.proofs.MessageParts.{quiet_hears_hello, quiet_hears_pod, quiet_with_avoid, quiet_with_part}
 
 -- From parts to laws.
 
@@ -105,3 +106,7 @@ pub accounted_tree : (choose : Choice) (v : SwitchView) (group : ℕ) (part : Op
     IsAccounted v (Says (Tree group part)) (switch_step choose v (Says (Tree group part))).view (switch_step choose v (Says (Tree group part))).acts
 accounted_tree choose v group part s =
     quiet_is_accounted v (Says (Tree group part)) (rests (record v { parts = with_part group part v.parts })) refl (quiet_with_part v group part s)
+
+pub accounted_hello : (choose : Choice) (v : SwitchView) (epoch : ℕ) → IsShaped v →
+    IsAccounted v (Says (Hello epoch)) (switch_step choose v (Says (Hello epoch))).view (switch_step choose v (Says (Hello epoch))).acts
+accounted_hello choose v epoch s = quiet_is_accounted v (Says (Hello epoch)) (hears_hello v epoch) refl (quiet_hears_hello v epoch s)

@@ -15,6 +15,7 @@ pub use Rattle.pl_switch_rule.proofs.Grants.{free_one, granted_parts, held_in_us
 pub use Rattle.pl_switch_rule.proofs.Lengths.{length_freed}
 pub use Rattle.pl_switch_rule.proofs.LevelParts.{quiet_finds_host}
 pub use Rattle.pl_switch_rule.proofs.MessageParts.{quiet_forgets_members, quiet_hears_pod, quiet_sets_trap}
+pub use Rattle.pl_switch_rule.proofs.ReportParts.{addresses_there, greeted_acts, links_acts}
 pub use Rattle.pl_switch_rule.proofs.RowActs.{ages_acts, all_age_out_acts, announced_acts, any_group, any_way, AreWays, arp_acts, ChangeActs, changes_acts, floods_acts, FrameActs, frees_acts, GrantActs, groups_acts, idle_acts, IsAnyPort, learns_source_acts, makes_acts, packet_taken_acts, probes_acts, proposal_acts, redirects_acts, sends_in_acts, settles_in_acts, switch_frame_acts, told_acts}
 pub use Rattle.pl_switch_rule.proofs.RowViews.{ages_learn, answers_stay, begins_stays, changes_learn, floods_stay, frees_learn, home_stays, host_frame_learns, invalidates_learns, LearnsHosts, LearnsSources, probes_stay, proposal_holds, sends_in_stays, settles_in_learns, source_learns, sources_are_of_hosts, Stays, stays_learns, switch_frame_stays, taken_in, with_host}
 pub use Rattle.pl_switch_rule.proofs.SentFrames.{six_of_mac}

@@ -3,6 +3,7 @@ pub mod Shapes
 pub mod Grants
 pub mod RowViews
 pub mod RowActs
+pub mod ReportParts
 pub mod StepActs
 pub mod QuietActs
 pub mod GrantingParts

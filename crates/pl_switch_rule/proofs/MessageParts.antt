@@ -1,11 +1,13 @@
 -- Messages of the manager, and of hosts, that let no frame out are quiet.
-use Rattle.std.proofs.Common.{not, nat_lt, ℕ, List, [], None, Option, Some, fold, refl}
+use Rattle.std.proofs.Common.{not, nat_lt, ℕ, List, [], ◌∷◌, map, None, Option, Some, fold, refl}
 use Rattle.std.specs.List.{filter}
 use Rattle.pl_frame.specs.declared.address.Mac.{Mac}
 use Rattle.pl_frame.specs.declared.address.SwitchId.{SwitchId}
 use Rattle.pl_frame.specs.Ethernet.{source_of}
 use Rattle.pl_arp.specs.declared.packet.Arp.{Arp}
 use Rattle.pl_pmac.specs.declared.pmac.Pmac.{Pmac}
+use Rattle.pl_node.specs.declared.acts.Act.TheVariants.{Tell}
+use Rattle.pl_node.specs.declared.messages.ToManager.{ToManager}
 use Rattle.pl_node.specs.declared.messages.TreePart.{TreePart}
 use Rattle.pl_node.specs.declared.trap.Trap.{Trap}
 use Rattle.pl_switch_rule.specs.Intake.{changes_member, groups_told, hears_members, is_member, members_become, packet_acts, with_members}
@@ -14,6 +16,7 @@ use Rattle.pl_switch_rule.specs.Levels.{changes_to, with_pod}
 use Rattle.pl_layouts.specs.Memberships.{changes_in}
 use Rattle.pl_switch_rule.specs.Messages.{forgets_members, hears_pod, sets_trap, sets_trap_over, takes_pod, with_part, with_trap}
 use Rattle.pl_switch_rule.specs.Granting.{behind, without}
+use Rattle.pl_switch_rule.specs.Reporting.{hears_hello, report_for}
 use Rattle.pl_steps.specs.Steps.{does, rests}
 use Rattle.pl_node.specs.AddressUses.{standing_trap}
 use Rattle.pl_node.specs.declared.address_use.AddressUse.TheVariants.{Trapped}
@@ -45,6 +48,18 @@ quiet_with_avoid v list s = quiet_rests v (record v { avoid = list }) (same_with
 
 pub quiet_with_part : (v : SwitchView) (group : ℕ) (part : Option TreePart) → IsShaped v → IsQuiet v (rests (record v { parts = with_part group part v.parts }))
 quiet_with_part v group part s = quiet_rests v (record v { parts = with_part group part v.parts }) (same_with_parts v (with_part group part v.parts) s)
+
+-- A manager that began anew is told all; what it said of lists and trees before is forgotten.
+
+quiet_words : (k : ℕ) (words : List ToManager) → AreQuiet k (map (λ word. Tell word) words)
+quiet_words k [] = tt
+quiet_words k (word ∷ words) = (tt, quiet_words k words)
+
+pub quiet_hears_hello : (v : SwitchView) (epoch : ℕ) → IsShaped v → IsQuiet v (hears_hello v epoch)
+quiet_hears_hello v epoch s =
+    let after : SwitchView = record v { epoch = epoch; avoid = []; parts = [] } in
+    quiet_step v after (map (λ word. Tell word) (report_for epoch v)) (same_shape v after s refl refl refl refl refl refl refl s.granted s.free s.sources)
+    (quiet_words v.k (report_for epoch v))
 
 -- Members.
 

@@ -81,6 +81,12 @@ pub record ChangeActs (place : Place) (P : Act → Type 0) : Type 0 where
   pub linked : (neighbour : SwitchId) (usable : Bool) → P (act.Tell (tell.Link neighbour usable))
   pub wanted : place.position ≡ Some 0 → P (act.Tell tell.PodWanted)
 
+-- of a report, beside what other rows do
+pub record ReportActs (P : Act → Type 0) : Type 0 where
+  pub begun : (epoch : ℕ) → P (act.Tell (tell.Begin epoch))
+  pub ended : (epoch : ℕ) → P (act.Tell (tell.End epoch))
+  pub trapped : (old new : Pmac) (number : ℕ) → P (act.Tell (tell.Trapped old new number))
+
 -- Lists and branches.
 
 all_of : {X : Type 0} (P Q : X → Type 0) (xs : List X) → ((x : X) → P x → Q x) → AllByRecursion P xs → AllByRecursion Q xs

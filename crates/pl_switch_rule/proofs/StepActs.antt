@@ -16,7 +16,7 @@ use Rattle.pl_node.specs.declared.acts.Act.{Act}
 use Rattle.pl_node.specs.declared.acts.Act.TheVariants as act
 use Rattle.pl_node.specs.declared.messages.ToManager.TheVariants as tell
 use Rattle.pl_node.specs.declared.messages.ToSwitch.{ToSwitch}
-use Rattle.pl_node.specs.declared.messages.ToSwitch.TheVariants.{Answer, Avoid, Flood, Invalidate, Pod, Release, Tree}
+use Rattle.pl_node.specs.declared.messages.ToSwitch.TheVariants.{Answer, Avoid, Flood, Hello, Invalidate, Pod, Release, Tree}
 use Rattle.pl_node.specs.AddressUses.{standing_trap}
 use Rattle.pl_node.specs.declared.switch_records.Grant.{Grant}
 use Rattle.pl_node.specs.declared.switch_records.Member.{Member}
@@ -37,7 +37,8 @@ use Rattle.pl_switch_rule.specs.Messages.{answer_frame, flood_frame, floods, for
 use Rattle.pl_switch_rule.specs.Positions.{after_vote}
 use Rattle.pl_switch_rule.specs.SwitchRule.{comes_from_switch, control_comes, data_comes, hears_control, switch_step}
 use Rattle.pl_switch_rule.specs.Telling.{changes_told}
-use Rattle.pl_switch_rule.proofs.RowActs.{ChangeActs, Each, FrameActs, GrantActs, IsAnyPort, ages_acts, announced_acts, any_group, any_way, changes_acts, floods_acts, frees_acts, groups_acts, idle_acts, learns_source_acts, makes_acts, probes_acts, proposal_acts, switch_frame_acts, taken_in_acts, told_acts}
+use Rattle.pl_switch_rule.proofs.RowActs.{ChangeActs, Each, FrameActs, GrantActs, IsAnyPort, ReportActs, ages_acts, announced_acts, any_group, any_way, changes_acts, floods_acts, frees_acts, groups_acts, idle_acts, learns_source_acts, makes_acts, probes_acts, proposal_acts, switch_frame_acts, taken_in_acts, told_acts}
+use Rattle.pl_switch_rule.proofs.ReportParts.{hello_acts}
 use Rattle.pl_switch_rule.proofs.RowViews.{ages_learn, changes_learn, host_frame_learns, trap_keeps_members, with_host}
 
 -- of data frames, and of messages that are about hosts
@@ -47,6 +48,7 @@ pub record HostActs (P : Act → Type 0) : Type 0 where
   pub made : (frame : List ℕ) → P (act.Make frame)
   pub aged : (address : Pmac) (number : ℕ) → P (act.Tell (tell.Aged address number))
   pub freed : (address : Pmac) → P (act.Free address)
+  pub reported : ReportActs P
 
 -- a group whose members became some or none had one before, where members are taken away alone
 had_member : (test keeps : Member → Bool) (members : List Member) → list_any test (filter keeps members) ≡ true → list_any test members ≡ true
@@ -156,6 +158,7 @@ module _ (P : Act → Type 0) where
           (λ known. floods_acts P IsAnyPort may.frames v (any_group v) (flood_frame asker asker_ip ip) (may.made _)) (λ unknown. tt)
       manager_acts (Invalidate old new number ip) later = invalidates_acts old (record { new = new; number = number; ip = ip }) (held_here v old)
       manager_acts (Release address) later = frees_acts P may.freed v address (granted v address)
+      manager_acts (Hello epoch) later = hello_acts P v may.grants may.aged may.reported later (λ group had. left group true had) epoch
 
     -- the whole step
     pub step_acts : ((group : ℕ) (any : Bool) → P (act.Tell (tell.Members group any))) → ((port : ℕ) (frame : List ℕ) → P (act.Control port frame)) →

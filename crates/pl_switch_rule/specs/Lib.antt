@@ -6,6 +6,7 @@ pub mod Forwarding
 pub mod GroupForwarding
 pub mod Delivering
 pub mod Intake
+pub mod Reporting
 pub mod Messages
 pub mod Aging
 pub mod Announcing

@@ -12,7 +12,7 @@ use Rattle.pl_node.specs.declared.acts.Act.{Act}
 use Rattle.pl_node.specs.declared.acts.Act.TheVariants.{Free as FreeAct, Make, Pass}
 use Rattle.pl_switch_rule.specs.declared.came.Came.TheVariants.{FromHost}
 use Rattle.pl_node.specs.declared.messages.ToSwitch.{ToSwitch}
-use Rattle.pl_node.specs.declared.messages.ToSwitch.TheVariants.{Answer, Avoid, Flood, Invalidate, Pod, Release, Tree}
+use Rattle.pl_node.specs.declared.messages.ToSwitch.TheVariants.{Answer, Avoid, Flood, Hello, Invalidate, Pod, Release, Tree}
 use Rattle.pl_node.specs.declared.messages.TreePart.{TreePart}
 use Rattle.pl_node.specs.declared.trap.Trap.{Trap}
 use Rattle.pl_switch_rule.specs.Delivering.{makes}
@@ -22,6 +22,7 @@ use Rattle.pl_switch_rule.specs.Granting.{behind, freed_at, granted, held_here, 
 use Rattle.pl_switch_rule.specs.GroupForwarding.{forwards_group}
 use Rattle.pl_switch_rule.specs.Intake.{is_member, members_become}
 use Rattle.pl_switch_rule.specs.Levels.{changes_to, with_pod}
+use Rattle.pl_switch_rule.specs.Reporting.{hears_hello}
 use Rattle.pl_layouts.specs.Placement.{is_known}
 use Rattle.pl_steps.specs.Steps.{SwitchStep, does, rests, ◌▹◌}
 use Rattle.pl_node.specs.AddressUses.{is_in_use, standing_trap}
@@ -123,3 +124,4 @@ hears_manager choose v (Flood asker asker_ip ip) =
 hears_manager choose v (Invalidate old new number ip) =
     invalidates v old (record { new = new; number = number; ip = ip }) (held_here v old)
 hears_manager choose v (Release address) = frees v address (granted v address)
+hears_manager choose v (Hello epoch) = hears_hello v epoch

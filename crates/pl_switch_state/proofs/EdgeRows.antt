@@ -25,11 +25,11 @@ keeps_place (Some old) (Some new) place keeps h = record {
   at = ap (λ p. edge_at p new.position) keeps.0.pod ∙ ap (λ q. edge_at old.pod q) keeps.0.position ∙ h.at;
 }
 
-pub edge_taken : (v : SwitchView) (p : PortsView) (c : Candidacy) (h : List (Option Hold)) (edge after : EdgeView) (avoid : List (SwitchId × ℕ × ℕ)) (parts : List (ℕ × TreePart))
+pub edge_taken : (v : SwitchView) (p : PortsView) (c : Candidacy) (h : List (Option Hold)) (edge after : EdgeView) (avoid : List (SwitchId × ℕ × ℕ)) (parts : List (ℕ × TreePart)) (epoch : ℕ)
     (row : SwitchView → SwitchStep) (out told : List Act) →
-    state_view p c h edge avoid parts ≡ v → place_by edge.address_table p.place ≡ p.place → place_by after.address_table p.place ≡ p.place →
-    IsTaken (row (edge_in edge (state_view p c h edge avoid parts))) (edge_in after (state_view p c h edge avoid parts)) out told →
-    IsTaken (row v) (state_view p c h after avoid parts) out told
-edge_taken v p c h edge after avoid parts row out told is at at_after taken =
-    subst (λ u. IsTaken (row u) (state_view p c h after avoid parts) out told) (edge_is_in p c h edge avoid parts at ∙ is)
-    (subst (λ w. IsTaken (row (edge_in edge (state_view p c h edge avoid parts))) w out told) (edge_becomes p c h edge after avoid parts at_after) taken)
+    state_view p c h edge avoid parts epoch ≡ v → place_by edge.address_table p.place ≡ p.place → place_by after.address_table p.place ≡ p.place →
+    IsTaken (row (edge_in edge (state_view p c h edge avoid parts epoch))) (edge_in after (state_view p c h edge avoid parts epoch)) out told →
+    IsTaken (row v) (state_view p c h after avoid parts epoch) out told
+edge_taken v p c h edge after avoid parts epoch row out told is at at_after taken =
+    subst (λ u. IsTaken (row u) (state_view p c h after avoid parts epoch) out told) (edge_is_in p c h edge avoid parts epoch at ∙ is)
+    (subst (λ w. IsTaken (row (edge_in edge (state_view p c h edge avoid parts epoch))) w out told) (edge_becomes p c h edge after avoid parts epoch at_after) taken)

@@ -43,12 +43,12 @@ known_host v port out level host =
 
 -- ---- a host at a port where none was known
 
-pub host_found : (p₀ p : PortsView) (c : Candidacy) (h : List (Option Hold)) (edge : EdgeView) (avoid : List (SwitchId × ℕ × ℕ)) (parts : List (ℕ × TreePart)) (port : ℕ) →
-    takes_host (state_view p₀ c h edge avoid parts) port ≡ true →
+pub host_found : (p₀ p : PortsView) (c : Candidacy) (h : List (Option Hold)) (edge : EdgeView) (avoid : List (SwitchId × ℕ × ℕ)) (parts : List (ℕ × TreePart)) (epoch : ℕ) (port : ℕ) →
+    takes_host (state_view p₀ c h edge avoid parts epoch) port ≡ true →
     ((v : SwitchView) → put_ports p v ≡ (if takes_host (put_ports p₀ v) port then becomes_edge (with_host (put_ports p₀ v) port) else put_ports p₀ v)) →
-    becomes_edge (with_host (state_view p₀ c h edge avoid parts) port) ≡ state_view p c h edge avoid parts
-host_found p₀ p c h edge avoid parts port takes view =
-    let old = state_view p₀ c h edge avoid parts in
+    becomes_edge (with_host (state_view p₀ c h edge avoid parts epoch) port) ≡ state_view p c h edge avoid parts epoch
+host_found p₀ p c h edge avoid parts epoch port takes view =
+    let old = state_view p₀ c h edge avoid parts epoch in
     sym (view old ∙ ap (λ b. if◌then◌else◌ {A = SwitchView} b (becomes_edge (with_host old port)) old) takes)
 
 place_found : (p₀ p : PortsView) (w : SwitchView) (port : ℕ) → takes_host (put_ports p₀ w) port ≡ true →
@@ -83,14 +83,14 @@ host_keeps p₀ p w port takes view =
 
 -- ---- where a host is known, by the parts
 
-pub known_by_parts : (v : SwitchView) (p : PortsView) (c : Candidacy) (h : List (Option Hold)) (edge : EdgeView) (avoid : List (SwitchId × ℕ × ℕ)) (parts : List (ℕ × TreePart)) (port : ℕ) (out : List Act) →
-    state_view p c h edge avoid parts ≡ v → (is_known p.place.level 0 && (port_of (ports_alone p) port).host) ≡ true → IsTaken (finds_host v port) v out out
-known_by_parts v p c h edge avoid parts port out is known =
+pub known_by_parts : (v : SwitchView) (p : PortsView) (c : Candidacy) (h : List (Option Hold)) (edge : EdgeView) (avoid : List (SwitchId × ℕ × ℕ)) (parts : List (ℕ × TreePart)) (epoch : ℕ) (port : ℕ) (out : List Act) →
+    state_view p c h edge avoid parts epoch ≡ v → (is_known p.place.level 0 && (port_of (ports_alone p) port).host) ≡ true → IsTaken (finds_host v port) v out out
+known_by_parts v p c h edge avoid parts epoch port out is known =
     let both = and_parts (is_known p.place.level 0) (port_of (ports_alone p) port).host known in
     subst (λ u. IsTaken (finds_host u port) u out out) is
-    (known_host (state_view p c h edge avoid parts) port out (known_is p.place.level 0 both.0) both.1)
+    (known_host (state_view p c h edge avoid parts epoch) port out (known_is p.place.level 0 both.0) both.1)
 
-pub known_edge : (v : SwitchView) (p : PortsView) (c : Candidacy) (h : List (Option Hold)) (edge : EdgeView) (avoid : List (SwitchId × ℕ × ℕ)) (parts : List (ℕ × TreePart)) (port : ℕ) →
-    state_view p c h edge avoid parts ≡ v → (is_known p.place.level 0 && (port_of (ports_alone p) port).host) ≡ true → is_known v.place.level 0 ≡ true
-known_edge v p c h edge avoid parts port is known =
+pub known_edge : (v : SwitchView) (p : PortsView) (c : Candidacy) (h : List (Option Hold)) (edge : EdgeView) (avoid : List (SwitchId × ℕ × ℕ)) (parts : List (ℕ × TreePart)) (epoch : ℕ) (port : ℕ) →
+    state_view p c h edge avoid parts epoch ≡ v → (is_known p.place.level 0 && (port_of (ports_alone p) port).host) ≡ true → is_known v.place.level 0 ≡ true
+known_edge v p c h edge avoid parts epoch port is known =
     ap (λ (u : SwitchView). is_known u.place.level 0) (sym is) ∙ (and_parts (is_known p.place.level 0) (port_of (ports_alone p) port).host known).0

@@ -5,6 +5,7 @@ pub mod Nothing
 pub mod HostsKnown
 pub mod Settled
 pub mod Ticked
+pub mod Reported
 pub mod Rows
 pub mod Votes
 pub mod EdgeRows

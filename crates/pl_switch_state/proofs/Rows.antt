@@ -25,27 +25,27 @@ use Rattle.pl_switch_state.specs.Settling.{PlaceGrows}
 use Rattle.pl_switch_state.proofs.Growing.{grows_by_message}
 
 -- a row that changes what is known, and then settles
-pub row_settled : (v : SwitchView) (p₀ p : PortsView) (c₀ c : Candidacy) (h₀ h : List (Option Hold)) (edge : EdgeView) (avoid : List (SwitchId × ℕ × ℕ)) (parts : List (ℕ × TreePart))
+pub row_settled : (v : SwitchView) (p₀ p : PortsView) (c₀ c : Candidacy) (h₀ h : List (Option Hold)) (edge : EdgeView) (avoid : List (SwitchId × ℕ × ℕ)) (parts : List (ℕ × TreePart)) (epoch : ℕ)
     (row : SwitchView → SwitchView) (before : Standing) (after : SwitchView) (out told : List Act) →
-    state_view p₀ c₀ h₀ edge avoid parts ≡ v → row (state_view p₀ c₀ h₀ edge avoid parts) ≡ state_view p c h edge avoid parts → p₀.k ≡ p.k →
+    state_view p₀ c₀ h₀ edge avoid parts epoch ≡ v → row (state_view p₀ c₀ h₀ edge avoid parts epoch) ≡ state_view p c h edge avoid parts epoch → p₀.k ≡ p.k →
     ((u : SwitchView) → IsStandingOf before (put_ports p₀ u)) →
-    ((old : SwitchView) → old.k ≡ p.k → IsStandingOf before old → IsTaken (changes_to old (state_view p c h edge avoid parts)) after out told) →
+    ((old : SwitchView) → old.k ≡ p.k → IsStandingOf before old → IsTaken (changes_to old (state_view p c h edge avoid parts epoch)) after out told) →
     IsTaken (changes_to v (row v)) after out told
-row_settled v p₀ p c₀ c h₀ h edge avoid parts row before after out told is becomes same stands taken =
-    let old = state_view p₀ c₀ h₀ edge avoid parts in
+row_settled v p₀ p c₀ c h₀ h edge avoid parts epoch row before after out told is becomes same stands taken =
+    let old = state_view p₀ c₀ h₀ edge avoid parts epoch in
     subst (λ u. IsTaken (changes_to u (row u)) after out told) is
     (subst (λ w. IsTaken (changes_to old w) after out told) (sym becomes) (taken old same (stands old)))
 
 -- ---- a message of location discovery
 
-pub message_heard : (p₀ p₁ p₂ : PortsView) (c : Candidacy) (h₀ h : List (Option Hold)) (edge : EdgeView) (avoid : List (SwitchId × ℕ × ℕ)) (parts : List (ℕ × TreePart))
+pub message_heard : (p₀ p₁ p₂ : PortsView) (c : Candidacy) (h₀ h : List (Option Hold)) (edge : EdgeView) (avoid : List (SwitchId × ℕ × ℕ)) (parts : List (ℕ × TreePart)) (epoch : ℕ)
     (port : ℕ) (id : SwitchId) (m : Ldm) →
     ((v : SwitchView) → put_ports p₁ v ≡ with_message (put_ports p₀ v) port id m) →
     ((v : SwitchView) → put_ports p₂ v ≡ learns_pod (learns_level (put_ports p₁ v) m.place) m.place) →
     ((v : SwitchView) → with_holds h (put_ports p₂ v) ≡ notes_edge (with_holds h₀ (put_ports p₂ v)) id m.place) →
-    after_message (state_view p₀ c h₀ edge avoid parts) port id m ≡ state_view p₂ c h edge avoid parts
-message_heard p₀ p₁ p₂ c h₀ h edge avoid parts port id m heard learnt noted =
-    let v = state_view p₀ c h₀ edge avoid parts in
+    after_message (state_view p₀ c h₀ edge avoid parts epoch) port id m ≡ state_view p₂ c h edge avoid parts epoch
+message_heard p₀ p₁ p₂ c h₀ h edge avoid parts epoch port id m heard learnt noted =
+    let v = state_view p₀ c h₀ edge avoid parts epoch in
     ap (λ u. notes_edge (learns_pod (learns_level u m.place) m.place) id m.place) (sym (heard v))
     ∙ ap (λ u. notes_edge u id m.place) (sym (learnt v))
     ∙ sym (noted v)
@@ -60,15 +60,15 @@ message_grows p₀ p₁ p₂ w port id m heard learnt =
 
 -- ---- a tick
 
-pub ticked : (v : SwitchView) (p₀ p : PortsView) (c : Candidacy) (h : List (Option Hold)) (edge : EdgeView) (avoid : List (SwitchId × ℕ × ℕ)) (parts : List (ℕ × TreePart))
+pub ticked : (v : SwitchView) (p₀ p : PortsView) (c : Candidacy) (h : List (Option Hold)) (edge : EdgeView) (avoid : List (SwitchId × ℕ × ℕ)) (parts : List (ℕ × TreePart)) (epoch : ℕ)
     (out told : List Act) →
-    state_view p₀ c h edge avoid parts ≡ v → c.position ≡ p.place.position →
+    state_view p₀ c h edge avoid parts epoch ≡ v → c.position ≡ p.place.position →
     ((u : SwitchView) → put_ports p u ≡ with_aged_ports (put_ports p₀ u)) →
-    ((u : SwitchView) → told ≡ out ++ changes_told (state_view p₀ c h edge avoid parts) (put_ports p u) ++ announced (ports_alone p) ++ proposed (with_candidacy c (put_ports p u))) →
-    IsTaken (tells_neighbours v) (state_view p c h edge avoid parts) out told
-ticked v p₀ p c h edge avoid parts out told is position aged tells =
-    let old = state_view p₀ c h edge avoid parts in
-    let now = state_view p c h edge avoid parts in
+    ((u : SwitchView) → told ≡ out ++ changes_told (state_view p₀ c h edge avoid parts epoch) (put_ports p u) ++ announced (ports_alone p) ++ proposed (with_candidacy c (put_ports p u))) →
+    IsTaken (tells_neighbours v) (state_view p c h edge avoid parts epoch) out told
+ticked v p₀ p c h edge avoid parts epoch out told is position aged tells =
+    let old = state_view p₀ c h edge avoid parts epoch in
+    let now = state_view p c h edge avoid parts epoch in
     let same : with_candidacy c now ≡ now = ap (λ o. record now { place = record p.place { position = o } }) position in
     let acts : told ≡ out ++ (changes_told old now ++ (announced now ++ proposed now)) =
     tells old ∙ ap (λ u. ((out ++ changes_told old now) ++ announced now) ++ proposed u) same

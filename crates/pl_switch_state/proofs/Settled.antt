@@ -129,14 +129,14 @@ told_and_granted old w after was out told granted is_was is_told settled =
     (subst (λ p. IsTaken (settles_in p w) after told granted) is_was settled)
 
 -- a switch is that which has this edge part
-pub edge_is_in : (p : PortsView) (c : Candidacy) (holds : List (Option Hold)) (edge : EdgeView) (avoid : List (SwitchId × ℕ × ℕ)) (parts : List (ℕ × TreePart)) →
-    place_by edge.address_table p.place ≡ p.place → edge_in edge (state_view p c holds edge avoid parts) ≡ state_view p c holds edge avoid parts
-edge_is_in p c holds edge avoid parts at = ap (λ q. record (state_view p c holds edge avoid parts) { place = q }) at
+pub edge_is_in : (p : PortsView) (c : Candidacy) (holds : List (Option Hold)) (edge : EdgeView) (avoid : List (SwitchId × ℕ × ℕ)) (parts : List (ℕ × TreePart)) (epoch : ℕ) →
+    place_by edge.address_table p.place ≡ p.place → edge_in edge (state_view p c holds edge avoid parts epoch) ≡ state_view p c holds edge avoid parts epoch
+edge_is_in p c holds edge avoid parts epoch at = ap (λ q. record (state_view p c holds edge avoid parts epoch) { place = q }) at
 
 -- the edge part becomes another one
-pub edge_becomes : (p : PortsView) (c : Candidacy) (holds : List (Option Hold)) (edge after : EdgeView) (avoid : List (SwitchId × ℕ × ℕ)) (parts : List (ℕ × TreePart)) →
-    place_by after.address_table p.place ≡ p.place → edge_in after (state_view p c holds edge avoid parts) ≡ state_view p c holds after avoid parts
-edge_becomes p c holds edge after avoid parts at = ap (λ q. record (state_view p c holds after avoid parts) { place = q }) at
+pub edge_becomes : (p : PortsView) (c : Candidacy) (holds : List (Option Hold)) (edge after : EdgeView) (avoid : List (SwitchId × ℕ × ℕ)) (parts : List (ℕ × TreePart)) (epoch : ℕ) →
+    place_by after.address_table p.place ≡ p.place → edge_in after (state_view p c holds edge avoid parts epoch) ≡ state_view p c holds after avoid parts epoch
+edge_becomes p c holds edge after avoid parts epoch at = ap (λ q. record (state_view p c holds after avoid parts epoch) { place = q }) at
 
 -- ---- without memory
 

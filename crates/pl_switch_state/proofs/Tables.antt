@@ -65,45 +65,45 @@ same_parts ports candidacy holds old new same are = record {
 }
 
 -- what the table takes up to a rest, the switch does
-pub edge_up_to : (v : SwitchView) (p : PortsView) (c : Candidacy) (h : List (Option Hold)) (edge after : EdgeView) (avoid : List (SwitchId × ℕ × ℕ)) (parts : List (ℕ × TreePart))
+pub edge_up_to : (v : SwitchView) (p : PortsView) (c : Candidacy) (h : List (Option Hold)) (edge after : EdgeView) (avoid : List (SwitchId × ℕ × ℕ)) (parts : List (ℕ × TreePart)) (epoch : ℕ)
     (row rest : SwitchView → SwitchStep) (out told : List Act) →
-    state_view p c h edge avoid parts ≡ v → place_by edge.address_table p.place ≡ p.place → place_by after.address_table p.place ≡ p.place →
-    IsTakenUpTo (rest (edge_in after (state_view p c h edge avoid parts))) (row (edge_in edge (state_view p c h edge avoid parts))) out told →
-    IsTakenUpTo (rest (state_view p c h after avoid parts)) (row v) out told
-edge_up_to v p c h edge after avoid parts row rest out told is at at_after taken =
-    subst (λ u. IsTakenUpTo (rest (state_view p c h after avoid parts)) (row u) out told) (edge_is_in p c h edge avoid parts at ∙ is)
-    (subst (λ w. IsTakenUpTo (rest w) (row (edge_in edge (state_view p c h edge avoid parts))) out told) (edge_becomes p c h edge after avoid parts at_after) taken)
+    state_view p c h edge avoid parts epoch ≡ v → place_by edge.address_table p.place ≡ p.place → place_by after.address_table p.place ≡ p.place →
+    IsTakenUpTo (rest (edge_in after (state_view p c h edge avoid parts epoch))) (row (edge_in edge (state_view p c h edge avoid parts epoch))) out told →
+    IsTakenUpTo (rest (state_view p c h after avoid parts epoch)) (row v) out told
+edge_up_to v p c h edge after avoid parts epoch row rest out told is at at_after taken =
+    subst (λ u. IsTakenUpTo (rest (state_view p c h after avoid parts epoch)) (row u) out told) (edge_is_in p c h edge avoid parts epoch at ∙ is)
+    (subst (λ w. IsTakenUpTo (rest w) (row (edge_in edge (state_view p c h edge avoid parts epoch))) out told) (edge_becomes p c h edge after avoid parts epoch at_after) taken)
 
-pub begun_by_table : {E : Type 0} (v : SwitchView) (p : PortsView) (c : Candidacy) (h : List (Option Hold)) (edge after : EdgeView) (avoid : List (SwitchId × ℕ × ℕ)) (parts : List (ℕ × TreePart))
+pub begun_by_table : {E : Type 0} (v : SwitchView) (p : PortsView) (c : Candidacy) (h : List (Option Hold)) (edge after : EdgeView) (avoid : List (SwitchId × ℕ × ℕ)) (parts : List (ℕ × TreePart)) (epoch : ℕ)
     (port : ℕ) (frame new : List ℕ) (out told : List Act) (result : Result EdgeAct E) →
-    state_view p c h edge avoid parts ≡ v → HasAddressTableAt edge.address_table p.place → HasAddressTableAt after.address_table p.place → MayBeAt edge.address_table p.place →
+    state_view p c h edge avoid parts epoch ≡ v → HasAddressTableAt edge.address_table p.place → HasAddressTableAt after.address_table p.place → MayBeAt edge.address_table p.place →
     IfOk result (λ act. (choose : Choice) (u : SwitchView) → MayBeAt edge.address_table u.place →
     IsTakenUpTo (left_to_do choose act new (edge_in after u)) (takes_in choose port frame (edge_in edge u)) out told) →
-    IfOk result (λ act. (choose : Choice) → IsTakenUpTo (left_to_do choose act new (state_view p c h after avoid parts)) (takes_in choose port frame v) out told)
-begun_by_table v p c h edge after avoid parts port frame new out told (Err e) is at at_after may begun = begun
-begun_by_table v p c h edge after avoid parts port frame new out told (Ok act) is at at_after may begun = λ choose.
-    edge_up_to v p c h edge after avoid parts (takes_in choose port frame) (left_to_do choose act new) out told is at.at at_after.at
-    (begun choose (state_view p c h edge avoid parts) may)
+    IfOk result (λ act. (choose : Choice) → IsTakenUpTo (left_to_do choose act new (state_view p c h after avoid parts epoch)) (takes_in choose port frame v) out told)
+begun_by_table v p c h edge after avoid parts epoch port frame new out told (Err e) is at at_after may begun = begun
+begun_by_table v p c h edge after avoid parts epoch port frame new out told (Ok act) is at at_after may begun = λ choose.
+    edge_up_to v p c h edge after avoid parts epoch (takes_in choose port frame) (left_to_do choose act new) out told is at.at at_after.at
+    (begun choose (state_view p c h edge avoid parts epoch) may)
 
-pub taken_by_table : {E : Type 0} (v : SwitchView) (p : PortsView) (c : Candidacy) (h : List (Option Hold)) (edge after : EdgeView) (avoid : List (SwitchId × ℕ × ℕ)) (parts : List (ℕ × TreePart))
+pub taken_by_table : {E : Type 0} (v : SwitchView) (p : PortsView) (c : Candidacy) (h : List (Option Hold)) (edge after : EdgeView) (avoid : List (SwitchId × ℕ × ℕ)) (parts : List (ℕ × TreePart)) (epoch : ℕ)
     (row : SwitchView → SwitchStep) (out told : List Act) (result : Result (Unit {0}) E) →
-    state_view p c h edge avoid parts ≡ v → HasAddressTableAt edge.address_table p.place → HasAddressTableAt after.address_table p.place → MayBeAt edge.address_table p.place →
+    state_view p c h edge avoid parts epoch ≡ v → HasAddressTableAt edge.address_table p.place → HasAddressTableAt after.address_table p.place → MayBeAt edge.address_table p.place →
     OnOk result ((u : SwitchView) → MayBeAt edge.address_table u.place → IsTaken (row (edge_in edge u)) (edge_in after u) out told) →
-    OnOk result (IsTaken (row v) (state_view p c h after avoid parts) out told)
-taken_by_table v p c h edge after avoid parts row out told (Err e) is at at_after may taken = taken
-taken_by_table v p c h edge after avoid parts row out told (Ok done) is at at_after may taken =
-    edge_taken v p c h edge after avoid parts row out told is at.at at_after.at (taken (state_view p c h edge avoid parts) may)
+    OnOk result (IsTaken (row v) (state_view p c h after avoid parts epoch) out told)
+taken_by_table v p c h edge after avoid parts epoch row out told (Err e) is at at_after may taken = taken
+taken_by_table v p c h edge after avoid parts epoch row out told (Ok done) is at at_after may taken =
+    edge_taken v p c h edge after avoid parts epoch row out told is at.at at_after.at (taken (state_view p c h edge avoid parts epoch) may)
 
 -- the same of what the table takes wherever it is
 pub taken_anywhere : {E : Type 0} (v : SwitchView) (p : PortsView) (c : Candidacy) (h : List (Option Hold)) (edge after : EdgeView)
-    (avoid : List (SwitchId × ℕ × ℕ)) (parts : List (ℕ × TreePart))
+    (avoid : List (SwitchId × ℕ × ℕ)) (parts : List (ℕ × TreePart)) (epoch : ℕ)
     (row : SwitchView → SwitchStep) (out told : List Act) (result : Result (Unit {0}) E) →
-    state_view p c h edge avoid parts ≡ v → HasAddressTableAt edge.address_table p.place → HasAddressTableAt after.address_table p.place →
+    state_view p c h edge avoid parts epoch ≡ v → HasAddressTableAt edge.address_table p.place → HasAddressTableAt after.address_table p.place →
     OnOk result ((u : SwitchView) → IsTaken (row (edge_in edge u)) (edge_in after u) out told) →
-    OnOk result (IsTaken (row v) (state_view p c h after avoid parts) out told)
-taken_anywhere v p c h edge after avoid parts row out told (Err e) is at at_after taken = taken
-taken_anywhere v p c h edge after avoid parts row out told (Ok done) is at at_after taken =
-    edge_taken v p c h edge after avoid parts row out told is at.at at_after.at (taken (state_view p c h edge avoid parts))
+    OnOk result (IsTaken (row v) (state_view p c h after avoid parts epoch) out told)
+taken_anywhere v p c h edge after avoid parts epoch row out told (Err e) is at at_after taken = taken
+taken_anywhere v p c h edge after avoid parts epoch row out told (Ok done) is at at_after taken =
+    edge_taken v p c h edge after avoid parts epoch row out told is at.at at_after.at (taken (state_view p c h edge avoid parts epoch))
 
 -- ---- what was granted
 

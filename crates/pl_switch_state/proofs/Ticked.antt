@@ -17,15 +17,15 @@ use Rattle.pl_switch_state.specs.StateViews.{state_view}
 use Rattle.pl_switch_state.proofs.Settled.{edge_becomes, edge_is_in}
 
 pub both_ticked : (p₀ p : PortsView) (c : Candidacy) (h : List (Option Hold)) (edge after : EdgeView) (avoid : List (SwitchId × ℕ × ℕ))
-    (parts : List (ℕ × TreePart))
+    (parts : List (ℕ × TreePart)) (epoch : ℕ)
     (out between told : List Act) → place_by edge.address_table p₀.place ≡ p₀.place → p.place ≡ p₀.place →
     ((place : Place) → place_by after.address_table place ≡ place_by edge.address_table place) →
-    IsTaken (tells_neighbours (state_view p₀ c h edge avoid parts)) (state_view p c h edge avoid parts) out between →
+    IsTaken (tells_neighbours (state_view p₀ c h edge avoid parts epoch)) (state_view p c h edge avoid parts epoch) out between →
     ((v : SwitchView) → IsTaken (ages (edge_in edge v)) (edge_in after v) between told) →
-    IsTaken (ticks (state_view p₀ c h edge avoid parts)) (state_view p c h after avoid parts) out told
-both_ticked p₀ p c h edge after avoid parts out between told at same stays first next =
-    let w : SwitchView = state_view p c h edge avoid parts in
+    IsTaken (ticks (state_view p₀ c h edge avoid parts epoch)) (state_view p c h after avoid parts epoch) out told
+both_ticked p₀ p c h edge after avoid parts epoch out between told at same stays first next =
+    let w : SwitchView = state_view p c h edge avoid parts epoch in
     let still : place_by edge.address_table p.place ≡ p.place = subst (λ q. place_by edge.address_table q ≡ q) (sym same) at in
-    taken_then (tells_neighbours (state_view p₀ c h edge avoid parts)) ages w (state_view p c h after avoid parts) out between told first
-    (subst (λ u. IsTaken (ages u) (state_view p c h after avoid parts) between told) (edge_is_in p c h edge avoid parts still)
-    (subst (λ u. IsTaken (ages (edge_in edge w)) u between told) (edge_becomes p c h edge after avoid parts (stays p.place ∙ still)) (next w)))
+    taken_then (tells_neighbours (state_view p₀ c h edge avoid parts epoch)) ages w (state_view p c h after avoid parts epoch) out between told first
+    (subst (λ u. IsTaken (ages u) (state_view p c h after avoid parts epoch) between told) (edge_is_in p c h edge avoid parts epoch still)
+    (subst (λ u. IsTaken (ages (edge_in edge w)) u between told) (edge_becomes p c h edge after avoid parts epoch (stays p.place ∙ still)) (next w)))

@@ -31,41 +31,41 @@ use Rattle.pl_switch_state.specs.Settling.{PlaceGrows}
 use Rattle.pl_switch_state.proofs.Rows.{KeepsSelf}
 
 -- the candidacy of a switch is its part
-candidate_of : (p : PortsView) (c : Candidacy) (h : List (Option Hold)) (edge : EdgeView) (avoid : List (SwitchId × ℕ × ℕ)) (parts : List (ℕ × TreePart)) →
-    c.position ≡ p.place.position → with_candidacy c (state_view p c h edge avoid parts) ≡ state_view p c h edge avoid parts
-candidate_of p c h edge avoid parts position = ap (λ o. record (state_view p c h edge avoid parts) { place = record p.place { position = o } }) position
+candidate_of : (p : PortsView) (c : Candidacy) (h : List (Option Hold)) (edge : EdgeView) (avoid : List (SwitchId × ℕ × ℕ)) (parts : List (ℕ × TreePart)) (epoch : ℕ) →
+    c.position ≡ p.place.position → with_candidacy c (state_view p c h edge avoid parts epoch) ≡ state_view p c h edge avoid parts epoch
+candidate_of p c h edge avoid parts epoch position = ap (λ o. record (state_view p c h edge avoid parts epoch) { place = record p.place { position = o } }) position
 
-pub vote_counted : (p₀ p : PortsView) (c₀ c : Candidacy) (h : List (Option Hold)) (edge : EdgeView) (avoid : List (SwitchId × ℕ × ℕ)) (parts : List (ℕ × TreePart)) (port : ℕ) (vote : Vote) →
+pub vote_counted : (p₀ p : PortsView) (c₀ c : Candidacy) (h : List (Option Hold)) (edge : EdgeView) (avoid : List (SwitchId × ℕ × ℕ)) (parts : List (ℕ × TreePart)) (epoch : ℕ) (port : ℕ) (vote : Vote) →
     c₀.position ≡ p₀.place.position → c.position ≡ p.place.position →
     ((v : SwitchView) → with_candidacy c (put_ports p v) ≡ after_vote (with_candidacy c₀ (put_ports p₀ v)) port vote) →
-    after_vote (state_view p₀ c₀ h edge avoid parts) port vote ≡ state_view p c h edge avoid parts
-vote_counted p₀ p c₀ c h edge avoid parts port vote before after is_counted =
-    ap (λ u. after_vote u port vote) (sym (candidate_of p₀ c₀ h edge avoid parts before))
-    ∙ sym (is_counted (state_view p₀ c₀ h edge avoid parts))
-    ∙ candidate_of p c h edge avoid parts after
+    after_vote (state_view p₀ c₀ h edge avoid parts epoch) port vote ≡ state_view p c h edge avoid parts epoch
+vote_counted p₀ p c₀ c h edge avoid parts epoch port vote before after is_counted =
+    ap (λ u. after_vote u port vote) (sym (candidate_of p₀ c₀ h edge avoid parts epoch before))
+    ∙ sym (is_counted (state_view p₀ c₀ h edge avoid parts epoch))
+    ∙ candidate_of p c h edge avoid parts epoch after
 
 -- ---- a proposal
 
-pub proposal_answered : (v : SwitchView) (p : PortsView) (c : Candidacy) (h₀ h : List (Option Hold)) (edge : EdgeView) (avoid : List (SwitchId × ℕ × ℕ)) (parts : List (ℕ × TreePart))
+pub proposal_answered : (v : SwitchView) (p : PortsView) (c : Candidacy) (h₀ h : List (Option Hold)) (edge : EdgeView) (avoid : List (SwitchId × ℕ × ℕ)) (parts : List (ℕ × TreePart)) (epoch : ℕ)
     (port : ℕ) (from : SwitchId) (q : Proposal) (vote : Vote) (out : List Act) →
-    state_view p c h₀ edge avoid parts ≡ v → is_answered (ports_alone p) port q.position ≡ true →
+    state_view p c h₀ edge avoid parts epoch ≡ v → is_answered (ports_alone p) port q.position ≡ true →
     ((u : SwitchView) (n : ℕ) → answers_proposal (frees_others (with_holds h₀ u) from q.position) n from q
     ≡ does (with_holds h u) (Control n (control_frame (control.Vote u.id vote)) ∷ [])) →
-    IsTaken (hears_proposal v port from q) (state_view p c h edge avoid parts) out (out ++ Control port (control_frame (control.Vote p.id vote)) ∷ [])
-proposal_answered v p c h₀ h edge avoid parts port from q vote out is answered step =
-    let old = state_view p c h₀ edge avoid parts in
-    let whole : does (state_view p c h edge avoid parts) (Control port (control_frame (control.Vote p.id vote)) ∷ []) ≡ hears_proposal old port from q =
+    IsTaken (hears_proposal v port from q) (state_view p c h edge avoid parts epoch) out (out ++ Control port (control_frame (control.Vote p.id vote)) ∷ [])
+proposal_answered v p c h₀ h edge avoid parts epoch port from q vote out is answered step =
+    let old = state_view p c h₀ edge avoid parts epoch in
+    let whole : does (state_view p c h edge avoid parts epoch) (Control port (control_frame (control.Vote p.id vote)) ∷ []) ≡ hears_proposal old port from q =
     sym (step old port)
     ∙ ap (λ b. if◌then◌else◌ {A = SwitchStep} b (answers_proposal (frees_others old from q.position) port from q) (rests old)) (sym answered) in
-    subst (λ u. IsTaken (hears_proposal u port from q) (state_view p c h edge avoid parts) out (out ++ Control port (control_frame (control.Vote p.id vote)) ∷ [])) is
-    (subst (λ s. IsTaken s (state_view p c h edge avoid parts) out (out ++ Control port (control_frame (control.Vote p.id vote)) ∷ [])) whole
+    subst (λ u. IsTaken (hears_proposal u port from q) (state_view p c h edge avoid parts epoch) out (out ++ Control port (control_frame (control.Vote p.id vote)) ∷ [])) is
+    (subst (λ s. IsTaken s (state_view p c h edge avoid parts epoch) out (out ++ Control port (control_frame (control.Vote p.id vote)) ∷ [])) whole
     (record { view = refl; acts = refl }))
 
-pub proposal_ignored : (v : SwitchView) (p : PortsView) (c : Candidacy) (h : List (Option Hold)) (edge : EdgeView) (avoid : List (SwitchId × ℕ × ℕ)) (parts : List (ℕ × TreePart))
+pub proposal_ignored : (v : SwitchView) (p : PortsView) (c : Candidacy) (h : List (Option Hold)) (edge : EdgeView) (avoid : List (SwitchId × ℕ × ℕ)) (parts : List (ℕ × TreePart)) (epoch : ℕ)
     (port : ℕ) (from : SwitchId) (q : Proposal) (out : List Act) →
-    state_view p c h edge avoid parts ≡ v → is_answered (ports_alone p) port q.position ≡ false → IsTaken (hears_proposal v port from q) (state_view p c h edge avoid parts) out out
-proposal_ignored v p c h edge avoid parts port from q out is ignored =
-    let old = state_view p c h edge avoid parts in
+    state_view p c h edge avoid parts epoch ≡ v → is_answered (ports_alone p) port q.position ≡ false → IsTaken (hears_proposal v port from q) (state_view p c h edge avoid parts epoch) out out
+proposal_ignored v p c h edge avoid parts epoch port from q out is ignored =
+    let old = state_view p c h edge avoid parts epoch in
     let whole : rests old ≡ hears_proposal old port from q =
     ap (λ b. if◌then◌else◌ {A = SwitchStep} b (answers_proposal (frees_others old from q.position) port from q) (rests old)) (sym ignored) in
     subst (λ u. IsTaken (hears_proposal u port from q) old out out) is (subst (λ s. IsTaken s old out out) whole (taken_rests old out))
@@ -93,12 +93,12 @@ vote_writable id from q vote named read attempt position names holder =
 
 -- ---- a pod
 
-pub pod_taken : (v : SwitchView) (p₀ p : PortsView) (c : Candidacy) (h : List (Option Hold)) (edge : EdgeView) (avoid : List (SwitchId × ℕ × ℕ)) (parts : List (ℕ × TreePart)) (pod : ℕ) →
-    takes_pod (state_view p₀ c h edge avoid parts) pod ≡ true →
+pub pod_taken : (v : SwitchView) (p₀ p : PortsView) (c : Candidacy) (h : List (Option Hold)) (edge : EdgeView) (avoid : List (SwitchId × ℕ × ℕ)) (parts : List (ℕ × TreePart)) (epoch : ℕ) (pod : ℕ) →
+    takes_pod (state_view p₀ c h edge avoid parts epoch) pod ≡ true →
     ((u : SwitchView) → put_ports p u ≡ with_pod (put_ports p₀ u) (if takes_pod (put_ports p₀ u) pod then Some pod else p₀.place.pod)) →
-    with_pod (state_view p₀ c h edge avoid parts) (Some pod) ≡ state_view p c h edge avoid parts
-pod_taken v p₀ p c h edge avoid parts pod takes view =
-    let old = state_view p₀ c h edge avoid parts in
+    with_pod (state_view p₀ c h edge avoid parts epoch) (Some pod) ≡ state_view p c h edge avoid parts epoch
+pod_taken v p₀ p c h edge avoid parts epoch pod takes view =
+    let old = state_view p₀ c h edge avoid parts epoch in
     sym (view old ∙ ap (λ b. with_pod old (if◌then◌else◌ {A = Option ℕ} b (Some pod) p₀.place.pod)) takes)
 
 pub pod_not_taken : (p₀ p : PortsView) (w : SwitchView) (pod : ℕ) → takes_pod (put_ports p₀ w) pod ≡ false →

@@ -13,8 +13,8 @@ use Rattle.pl_position.specs.Holding.{AreHeldByIds}
 use Rattle.pl_ports.specs.PortsViews.{PortsView}
 use Rattle.pl_edge.specs.EdgeViews.{EdgeView, freed_by, grants_by, place_by, trapped_by, used_by}
 
-abbrev pub state_view : PortsView → Candidacy → List (Option Hold) → EdgeView → List (SwitchId × ℕ × ℕ) → List (ℕ × TreePart) → SwitchView
-state_view ports candidacy holds edge avoid parts = record {
+abbrev pub state_view : PortsView → Candidacy → List (Option Hold) → EdgeView → List (SwitchId × ℕ × ℕ) → List (ℕ × TreePart) → ℕ → SwitchView
+state_view ports candidacy holds edge avoid parts epoch = record {
   id = ports.id;
   k = ports.k;
   place = ports.place;
@@ -31,6 +31,7 @@ state_view ports candidacy holds edge avoid parts = record {
   members = edge.members;
   avoid = avoid;
   parts = parts;
+  epoch = epoch;
 }
 
 -- an edge switch that can forward frames

@@ -53,4 +53,8 @@ impl SwitchFacts for SwitchState {
     fn group(&self, n: usize) -> Option<u32> {
         self.parts.keys().nth(n).copied()
     }
+
+    fn epoch(&self) -> u32 {
+        self.epoch
+    }
 }

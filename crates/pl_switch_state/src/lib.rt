@@ -1,5 +1,6 @@
 //! What a switch keeps, and what it does with all that is no data frame: ticks, control frames, and
-//! the messages of the fabric manager that say its pod, what to avoid and its parts of trees; and that a
+//! the messages of the fabric manager that say its pod, what to avoid, its parts of trees and that it begins
+//! anew; and that a
 //! host is found at a port.
 //!
 //! A `SwitchState` is put together from the parts of a switch. Contracts see all that the switch knows, as

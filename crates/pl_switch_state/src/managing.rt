@@ -1,11 +1,13 @@
-ghost use Rattle.std.specs.Prelude.{◌≡◌, OnErr, OnOk};
+ghost use Rattle.std.specs.Prelude.{◌≡◌, ◌++◌, OnErr, OnOk};
 ghost use Rattle.pl_steps.specs.Taken.{IsTaken};
 ghost use Rattle.pl_switch_rule.specs.Messages.{hears_pod, with_part};
+ghost use Rattle.pl_switch_rule.specs.Reporting.{each_told, hears_hello, report_for};
 
 use crate::SwitchState;
 use crate::copying::copy_part;
 use crate::settling::settle;
-use pl_node::{AvoidList, Memory, Outbox, TreePart};
+use pl_node::{Act, AvoidList, Memory, Outbox, ToManager, TreePart};
+use std::collections::BTreeMap;
 
 impl SwitchState {
     /// The fabric manager says the number of the pod. A number that this switch did not wait for changes
@@ -37,6 +39,33 @@ impl SwitchState {
         ensures err { OnErr result (self.new ≡ self.old) }
     {
         self.avoid = list.copied(self.alloc)?;
+        Ok(())
+    }
+
+    /// A fabric manager begins anew, for the time of this number: the switch forgets its avoid list and all its
+    /// parts of trees, and tells its report. After want of memory all is as it was.
+    pub fn hear_hello(&mut self, epoch: u32, out: &mut Outbox) -> Result<(), Memory>
+        ensures taken { OnOk result (IsTaken (hears_hello self.old epoch) self.new out.old out.new) }
+        ensures id { self.new.id ≡ self.old.id }
+        ensures k { self.new.k ≡ self.old.k }
+        ensures err { OnErr result (self.new ≡ self.old) }
+    {
+        self.report(epoch, out)?;
+        self.epoch = epoch;
+        self.avoid = AvoidList::new(self.alloc);
+        self.parts = BTreeMap::new(self.alloc);
+        Ok(())
+    }
+
+    // All that a fabric manager has to know of it.
+    fn report(&self, epoch: u32, out: &mut Outbox) -> Result<(), Memory>
+        ensures { OnOk result (out.new ≡ out.old ++ each_told (report_for epoch self.now)) }
+    {
+        out.push(Act::Tell(ToManager::Begin(epoch)))?;
+        self.ports.report(out)?;
+        self.edge.report(out)?;
+        self.edge.report_groups(out)?;
+        out.push(Act::Tell(ToManager::End(epoch)))?;
         Ok(())
     }
 

@@ -33,9 +33,9 @@ pub(crate) fn settle(
     requires hosts { edge.old.k ≡ ports.old.k }
     requires votes { proposer.old.k ≡ ports.old.k }
     requires position { proposer.old.position ≡ ports.old.place.position }
-    ensures taken { OnOk result ((old : SwitchView) (holds : List (Option Hold)) (avoid : List (SwitchId × ℕ × ℕ)) (parts : List (ℕ × TreePart)) →
+    ensures taken { OnOk result ((old : SwitchView) (holds : List (Option Hold)) (avoid : List (SwitchId × ℕ × ℕ)) (parts : List (ℕ × TreePart)) (epoch : ℕ) →
         old.k ≡ ports.old.k → IsStandingOf before.now old →
-        IsTaken (changes_to old (state_view ports.old proposer.old holds edge.old avoid parts)) (state_view ports.new proposer.new holds edge.new avoid parts) out.old out.new) }
+        IsTaken (changes_to old (state_view ports.old proposer.old holds edge.old avoid parts epoch)) (state_view ports.new proposer.new holds edge.new avoid parts epoch) out.old out.new) }
     ensures same { OnOk result (ports.new ≡ ports.old) }
     ensures address_table { HasAddressTableAt edge.new.address_table ports.new.place }
     ensures id { ports.new.id ≡ ports.old.id }

@@ -24,6 +24,7 @@ pub struct SwitchState {
     pub(crate) edge: EdgeTable,
     pub(crate) avoid: AvoidList,
     pub(crate) parts: BTreeMap<u32, TreePart>,
+    pub(crate) epoch: u32,
 }
 
 impl Model for SwitchState {
@@ -32,7 +33,7 @@ impl Model for SwitchState {
 
     ghost Value = { SwitchView };
 
-    ghost view = { λ s. state_view s.ports s.proposer s.holder s.edge s.avoid s.parts.entries };
+    ghost view = { λ s. state_view s.ports s.proposer s.holder s.edge s.avoid s.parts.entries s.epoch };
 
     ghost invariant = { λ s. AreOfOne s.ports s.proposer s.holder s.edge };
 }
@@ -52,6 +53,7 @@ impl SwitchState {
             edge,
             avoid: AvoidList::new(alloc),
             parts: BTreeMap::new(alloc),
+            epoch: 0,
         })
     }
 

@@ -51,9 +51,9 @@ fn tick_both(
     out: &mut Outbox,
 ) -> Result<(), Memory>
     requires { proposer.now.k ≡ ports.old.k }
-    ensures taken { OnOk result ((holds : List (Option Hold)) (avoid : List (SwitchId × ℕ × ℕ)) (parts : List (ℕ × TreePart)) →
+    ensures taken { OnOk result ((holds : List (Option Hold)) (avoid : List (SwitchId × ℕ × ℕ)) (parts : List (ℕ × TreePart)) (epoch : ℕ) →
         proposer.now.position ≡ ports.old.place.position → place_by edge.old.address_table ports.old.place ≡ ports.old.place →
-        IsTaken (ticks (state_view ports.old proposer.now holds edge.old avoid parts)) (state_view ports.new proposer.now holds edge.new avoid parts) out.old out.new) }
+        IsTaken (ticks (state_view ports.old proposer.now holds edge.old avoid parts epoch)) (state_view ports.new proposer.now holds edge.new avoid parts epoch) out.old out.new) }
     ensures id { ports.new.id ≡ ports.old.id }
     ensures k { ports.new.k ≡ ports.old.k }
     ensures place { ports.new.place ≡ ports.old.place }
@@ -73,9 +73,9 @@ fn tick_ports(
     out: &mut Outbox,
 ) -> Result<(), Memory>
     requires { proposer.now.k ≡ ports.old.k }
-    ensures taken { OnOk result ((holds : List (Option Hold)) (edge : EdgeView) (avoid : List (SwitchId × ℕ × ℕ)) (parts : List (ℕ × TreePart)) →
+    ensures taken { OnOk result ((holds : List (Option Hold)) (edge : EdgeView) (avoid : List (SwitchId × ℕ × ℕ)) (parts : List (ℕ × TreePart)) (epoch : ℕ) →
         proposer.now.position ≡ ports.old.place.position →
-        IsTaken (tells_neighbours (state_view ports.old proposer.now holds edge avoid parts)) (state_view ports.new proposer.now holds edge avoid parts) out.old out.new) }
+        IsTaken (tells_neighbours (state_view ports.old proposer.now holds edge avoid parts epoch)) (state_view ports.new proposer.now holds edge avoid parts epoch) out.old out.new) }
     ensures id { ports.new.id ≡ ports.old.id }
     ensures k { ports.new.k ≡ ports.old.k }
     ensures place { ports.new.place ≡ ports.old.place }

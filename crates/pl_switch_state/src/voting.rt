@@ -88,8 +88,8 @@ pub(crate) fn answer_proposal(
     requires message { IsWritableControl (Control.Proposal edge proposal) }
     requires positions { length holder.old ≡ ports.now.k / 2 }
     requires holders { AreHeldByIds holder.old }
-    ensures taken { OnOk result ((candidacy : Candidacy) (table : EdgeView) (avoid : List (SwitchId × ℕ × ℕ)) (parts : List (ℕ × TreePart)) →
-        IsTaken (hears_proposal (state_view ports.now candidacy holder.old table avoid parts) port edge proposal) (state_view ports.now candidacy holder.new table avoid parts) out.old out.new) }
+    ensures taken { OnOk result ((candidacy : Candidacy) (table : EdgeView) (avoid : List (SwitchId × ℕ × ℕ)) (parts : List (ℕ × TreePart)) (epoch : ℕ) →
+        IsTaken (hears_proposal (state_view ports.now candidacy holder.old table avoid parts epoch) port edge proposal) (state_view ports.now candidacy holder.new table avoid parts epoch) out.old out.new) }
     ensures positions { length holder.new ≡ ports.now.k / 2 }
     ensures holders { AreHeldByIds holder.new }
 {

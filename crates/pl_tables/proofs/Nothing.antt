@@ -1,13 +1,16 @@
 -- A switch without a level has no tables; and what makes no difference to tables.
-use Rattle.std.proofs.Common.{◌≡◌, ℕ, zero, suc, ◌<◌, ◌≤◌, List, [], length, replicate, get_or, is_some, Result, Ok, Err, IsOk, OnOk, refl, sym, ap, subst, ◌∙◌}
+use Rattle.std.proofs.Common.{◌≡◌, ℕ, zero, suc, ◌<◌, ◌≤◌, List, [], length, replicate, get_or, is_some, Result, Ok, Err, IsOk, OnErr, OnOk, refl, sym, ap, subst, ◌∙◌}
 use Rattle.std.proofs.lemmas.Bool.{false≢true}
 use Rattle.pl_frame.specs.declared.address.SwitchId.{SwitchId}
 use Rattle.pl_layouts.specs.declared.place.Place.{Place}
 use Rattle.pl_layouts.specs.Placement.{is_known, nowhere}
 use Rattle.pl_lists.specs.Ports.{ports_of}
+use Rattle.pl_node.specs.declared.acts.Act.{Act}
 use Rattle.pl_node.specs.declared.neighbour.PortRecord.{PortRecord}
 use Rattle.pl_node.specs.PortRecords.{port_of}
 use Rattle.pl_node.specs.SwitchViews.{SwitchView}
+use Rattle.pl_steps.specs.Taken.{IsTaken}
+use Rattle.pl_switch_rule.specs.Reporting.{hears_hello}
 use Rattle.pl_tables.specs.declared.lead.Lead.{Lead}
 use Rattle.pl_tables.specs.declared.port_rows.PortRow.{PortRow}
 use Rattle.pl_tables.specs.declared.prefix_tables.PrefixTables.{PrefixTables}
@@ -68,3 +71,22 @@ pub kept_up : {E F : Type 0} (P : SwitchView → Type 0) (mid new : SwitchView) 
 kept_up P mid new (Ok d) (Ok r) was same holds = subst P (sym same) holds
 kept_up P mid new (Err e) (Ok r) was same holds = absurd (false≢true was)
 kept_up P mid new done (Err f) was same holds = was
+
+-- a switch that forgot what to avoid, and then hears that a manager begins anew
+pub greeted_follows : {E : Type 0} (v mid new : SwitchView) (epoch : ℕ) (leads : List Lead) (tables : PrefixTables) (result : Result (Unit {0}) E)
+    (out told : List Act) →
+    mid ≡ record v { avoid = [] } → TablesFollow mid leads tables → OnOk result (IsTaken (hears_hello mid epoch) new out told) → OnErr result (new ≡ mid) →
+    TablesFollow new leads tables
+greeted_follows v mid new epoch leads tables (Ok done) out told is follows taken err =
+    same_follows mid new leads tables (ap (λ (u : SwitchView). u.id) taken.view) (ap (λ (u : SwitchView). u.k) taken.view)
+    (ap (λ (u : SwitchView). u.place) taken.view) (ap (λ (u : SwitchView). u.ports) taken.view)
+    (ap (λ (u : SwitchView). u.avoid) taken.view ∙ sym (ap (λ (u : SwitchView). u.avoid) is)) follows
+greeted_follows v mid new epoch leads tables (Err e) out told is follows taken err = subst (λ u. TablesFollow u leads tables) (sym err) follows
+
+-- what it tells does not depend on what it was to avoid
+pub greeted_taken : {E : Type 0} (v mid new : SwitchView) (epoch : ℕ) (result : Result (Unit {0}) E) (out told : List Act) → mid ≡ record v { avoid = [] } →
+    OnOk result (IsTaken (hears_hello mid epoch) new out told) → OnOk result (IsTaken (hears_hello v epoch) new out told)
+greeted_taken v mid new epoch (Ok done) out told is taken =
+    let now : IsTaken (hears_hello (record v { avoid = [] }) epoch) new out told = subst (λ u. IsTaken (hears_hello u epoch) new out told) is taken in
+    record { view = now.view; acts = now.acts }
+greeted_taken v mid new epoch (Err e) out told is taken = taken

@@ -1,11 +1,13 @@
 ghost use Rattle.std.specs.Prelude.{◌≡◌, ℕ, ◌≤◌, IsOk, OnOk, length};
+ghost use Rattle.pl_steps.specs.Taken.{IsTaken};
+ghost use Rattle.pl_switch_rule.specs.Reporting.{hears_hello};
 ghost use Rattle.pl_tables.specs.Leads.{lead_at, no_lead, AreOfLeads, TablesFollow};
 
 use crate::PrefixTables;
 use crate::following::follow;
 use crate::lead::{Lead, no_leads};
 use crate::lists::change_list;
-use pl_node::{AvoidList, Memory, SwitchFacts};
+use pl_node::{AvoidList, Memory, Outbox, SwitchFacts};
 use pl_switch_state::SwitchState;
 
 /// The tables follow what a call has changed at the ports. After want of memory, in the call or here, the
@@ -87,6 +89,26 @@ pub(crate) fn take_list(
             Err(memory)
         }
     }
+}
+
+/// A fabric manager begins anew: the rows of the ports up forget what to avoid, and then the switch tells its
+/// report.
+pub(crate) fn greet(
+    state: &mut SwitchState,
+    leads: &mut [Lead; 24],
+    tables: &mut PrefixTables,
+    epoch: u32,
+    out: &mut Outbox,
+) -> Result<(), Memory>
+    requires { TablesFollow state.old leads.old tables.old }
+    ensures taken { OnOk result (IsTaken (hears_hello state.old epoch) state.new out.old out.new) }
+    ensures follows { TablesFollow state.new leads.new tables.new }
+    ensures id { state.new.id ≡ state.old.id }
+    ensures k { state.new.k ≡ state.old.k }
+{
+    let none = AvoidList::new(state.alloc());
+    take_list(state, leads, tables, &none)?;
+    state.hear_hello(epoch, out)
 }
 
 // The rows follow, and then the list is replaced.

@@ -1,5 +1,5 @@
 use crate::TableSwitch;
-use crate::keeping::{keep_up, take_list};
+use crate::keeping::{greet, keep_up, take_list};
 use pl_data_rows::KeepsRecords;
 use pl_edge::{EdgeAct, EdgeTable};
 use pl_frame::Frame;
@@ -59,6 +59,16 @@ impl KeepsRecords for TableSwitch {
 
     fn hear_tree_part(&mut self, group: u32, part: &Option<TreePart>) -> Result<(), Memory> {
         self.state.hear_tree_part(group, part)
+    }
+
+    fn hear_hello(&mut self, epoch: u32, out: &mut Outbox) -> Result<(), Memory> {
+        greet(
+            &mut self.state,
+            &mut self.leads,
+            &mut self.tables,
+            epoch,
+            out,
+        )
     }
 
     fn control_comes(&mut self, port: u8, frame: &[u8], out: &mut Outbox) -> Result<(), Memory> {

@@ -91,6 +91,10 @@ impl SwitchFacts for TableSwitch {
     fn group(&self, n: usize) -> Option<u32> {
         self.state.group(n)
     }
+
+    fn epoch(&self) -> u32 {
+        self.state.epoch()
+    }
 }
 
 impl GroupFacts for TableSwitch {

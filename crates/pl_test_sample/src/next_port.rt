@@ -120,6 +120,10 @@ impl SwitchFacts for NextPort {
     fn group(&self, _n: usize) -> Option<u32> {
         None
     }
+
+    fn epoch(&self) -> u32 {
+        0
+    }
 }
 
 impl SwitchLogic for NextPort {

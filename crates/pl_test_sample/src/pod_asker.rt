@@ -68,6 +68,10 @@ impl SwitchFacts for PodAsker {
     fn group(&self, n: usize) -> Option<u32> {
         self.one.group(n)
     }
+
+    fn epoch(&self) -> u32 {
+        self.one.epoch()
+    }
 }
 
 impl SwitchLogic for PodAsker {

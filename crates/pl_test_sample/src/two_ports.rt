@@ -67,6 +67,10 @@ impl SwitchFacts for TwoPorts {
     fn group(&self, n: usize) -> Option<u32> {
         self.one.group(n)
     }
+
+    fn epoch(&self) -> u32 {
+        self.one.epoch()
+    }
 }
 
 impl SwitchLogic for TwoPorts {

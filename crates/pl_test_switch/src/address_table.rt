@@ -1,5 +1,6 @@
 //! `grant PORT MAC`, `learn PORT MAC [IP]`, `fill PORT COUNT`, `in-use PORT MAC`, `find PMAC`, `follow PMAC`,
-//! `holding PORT VMID`, `trap PMAC NEW NUMBER [IP]`, `age TICKS`, `next-probe`, `next-aged`, `release PMAC`.
+//! `holding PORT VMID`, `trap PMAC NEW NUMBER [IP]`, `age TICKS`, `next-probe`, `next-aged`, `release PMAC`,
+//! `report`: what a manager that begins anew is told.
 use crate::pmacs::trap_to;
 use pl_frame::Mac;
 use pl_lists::Queue;
@@ -57,6 +58,7 @@ impl Bench {
             "next-probe" => self.next_probe(alloc, out),
             "next-aged" => self.next_aged(alloc, out),
             "release" => self.release(alloc, rest, out),
+            "report" => self.report(alloc, out),
             _ => say(out, "not understood"),
         }
     }
@@ -207,6 +209,14 @@ impl Bench {
             return say(out, "not understood");
         };
         self.address_table.release(pmac, &mut self.told)?;
+        self.tell(alloc, out)
+    }
+
+    fn report(&mut self, alloc: Global, out: &mut String) -> Result<(), Memory> {
+        let Ok(k) = u8::try_from(self.address_table.ports()) else {
+            return say(out, "too many ports");
+        };
+        self.address_table.report(k, &mut self.told)?;
         self.tell(alloc, out)
     }
 

@@ -1,6 +1,6 @@
 //! `edge K`. `placed POD POSITION`; `comes PORT FRAME`: a frame of a host; `home FRAME`: a frame for this
 //! edge switch; `find PMAC`; `answer ASKER ASKER_IP IP PMAC`, `flood ASKER ASKER_IP IP`; `invalidate OLD NEW NUMBER
-//! [IP]`.
+//! [IP]`; `report`: what a manager that begins anew is told of addresses and groups.
 ghost use Rattle.std.specs.Prelude.{◌≡◌, ◌<◌, ◌≤◌, is_some, length};
 ghost use Rattle.pl_layouts.specs.Memberships.{membership_in};
 
@@ -57,8 +57,15 @@ impl Bench {
             "answer" => say_answer(alloc, rest, out),
             "flood" => say_flood(alloc, rest, out),
             "invalidate" => self.invalidate(alloc, rest, out),
+            "report" => self.report(alloc, out),
             _ => say(out, "not understood"),
         }
+    }
+
+    fn report(&mut self, alloc: Global, out: &mut String) -> Result<(), Memory> {
+        self.table.report(&mut self.done)?;
+        self.table.report_groups(&mut self.done)?;
+        say_acts(alloc, &mut self.done, out)
     }
 
     // POD POSITION

@@ -1,6 +1,7 @@
 //! `tables ID K`: a switch that keeps prefix tables. `receive PORT FRAME`; `avoid ID:POD.POSITION ..`, or `avoid nothing`: the
-//! avoid list that the fabric manager says; `tick`. `up`; `avoided`, `down`: their rows, each by its index; `avoided KEY`,
-//! `down KEY`: the ports of a key.
+//! avoid list that the fabric manager says; `hello N`: it begins anew, and what it is told is printed; `tick`. `epoch`;
+//! `up`; `avoided`, `down`: their rows, each by its index; `avoided KEY`, `down KEY`: the ports of a key.
+use crate::acts::say_acts;
 use crate::members::say_ports;
 use crate::numbers::switch;
 use pl_frame::SwitchId;
@@ -48,7 +49,9 @@ fn play(
     match verb {
         "receive" => receive(device, alloc, rest, out),
         "avoid" => avoid(device, alloc, rest, out),
+        "hello" => hello(device, alloc, rest, out),
         "tick" => tick(device, alloc),
+        "epoch" => say_epoch(device, alloc, out),
         "up" => say_ports(device.tables().up, alloc, out),
         "avoided" => say_rows(&device.tables().avoided, alloc, rest, out),
         "down" => say_rows(&device.tables().down, alloc, rest, out),
@@ -112,6 +115,29 @@ fn entry(text: &str) -> Option<(SwitchId, u16, u8)> {
     let pod = pod.parse::<u16>().ok()?;
     let position = byte(position)?;
     Some((neighbour, pod, position))
+}
+
+// N
+fn hello(
+    device: &mut TableSwitch,
+    alloc: Global,
+    rest: &str,
+    out: &mut String,
+) -> Result<(), Memory> {
+    match number(rest) {
+        Some(epoch) => {
+            let mut done: Outbox = Queue::new(alloc);
+            device.manager_says(&ToSwitch::Hello(epoch), &mut done)?;
+            say_acts(alloc, &mut done, out)
+        }
+        None => say(out, "not understood"),
+    }
+}
+
+fn say_epoch(device: &TableSwitch, alloc: Global, out: &mut String) -> Result<(), Memory> {
+    let epoch = device.epoch();
+    let line = format!(in alloc; "{epoch}")?;
+    say(out, line.as_str())
 }
 
 fn tick(device: &mut TableSwitch, alloc: Global) -> Result<(), Memory> {

@@ -119,6 +119,9 @@ question_is (tell.Link neighbour usable) h = absurd (cc)
 question_is tell.PodWanted h = absurd (cc)
 question_is (tell.Learned pmac amac ip) h = absurd (cc)
 question_is (tell.Aged pmac number) h = absurd (cc)
+question_is (tell.Begin epoch) h = absurd (cc)
+question_is (tell.End epoch) h = absurd (cc)
+question_is (tell.Trapped trapped toward numbered) h = absurd (cc)
 question_is (tell.Query asker asker_ip ip) h = tt
 question_is (tell.Members group any) h = absurd (cc)
 
@@ -128,6 +131,9 @@ question_counts (tell.Link neighbour usable) is = absurd is
 question_counts tell.PodWanted is = absurd is
 question_counts (tell.Learned pmac amac ip) is = absurd is
 question_counts (tell.Aged pmac number) is = absurd is
+question_counts (tell.Begin epoch) is = absurd is
+question_counts (tell.End epoch) is = absurd is
+question_counts (tell.Trapped trapped toward numbered) is = absurd is
 question_counts (tell.Query asker asker_ip ip) is = refl
 question_counts (tell.Members group any) is = absurd is
 
@@ -138,6 +144,7 @@ reply_is (order.Flood asker asker_ip ip) h = tt
 reply_is (order.Avoid list) h = absurd (cc)
 reply_is (order.Invalidate old new number ip) h = absurd (cc)
 reply_is (order.Release pmac) h = absurd (cc)
+reply_is (order.Hello epoch) h = absurd (cc)
 reply_is (order.Tree group part) h = absurd (cc)
 
 reply_counts : (says : ToSwitch) → IsReply says → is_order says ≡ false
@@ -147,6 +154,7 @@ reply_counts (order.Flood asker asker_ip ip) is = refl
 reply_counts (order.Avoid list) is = absurd is
 reply_counts (order.Invalidate old new number ip) is = absurd is
 reply_counts (order.Release pmac) is = absurd is
+reply_counts (order.Hello epoch) is = absurd is
 reply_counts (order.Tree group part) is = absurd is
 
 -- ---- both ways

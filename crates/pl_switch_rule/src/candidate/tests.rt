@@ -72,6 +72,10 @@ impl SwitchFacts for HostsAlone {
     fn group(&self, _n: usize) -> Option<u32> {
         None
     }
+
+    fn epoch(&self) -> u32 {
+        0
+    }
 }
 
 #[test]

@@ -13,9 +13,9 @@ pub returns-clause-taken : goal.returns-clause-taken
 returns-clause-taken c =
     let p = c.args.ports.now in
     on_ok c.tell_neighbours.result
-    (λ tells holds edge avoid parts position.
-    let old = state_view p c.args.proposer.now holds edge avoid parts in
-    ticked old p c.tick.new.self c.args.proposer.now holds edge avoid parts c.args.out.now c.tell_neighbours.new.out refl
+    (λ tells holds edge avoid parts epoch position.
+    let old = state_view p c.args.proposer.now holds edge avoid parts epoch in
+    ticked old p c.tick.new.self c.args.proposer.now holds edge avoid parts epoch c.args.out.now c.tell_neighbours.new.out refl
     (position ∙ sym (ap (λ (u : SwitchView). u.place.position) (c.tick.ensures.view (ports_alone c.args.ports.now)))) c.tick.ensures.view
     (λ u. tells old u (sym (ap (λ (w : SwitchView). w.k) (c.tick.ensures.view (ports_alone c.args.ports.now)))) (c.standing-before.ensures old)))
     c.tell_neighbours.ensures

@@ -1,8 +1,8 @@
-use Rattle.std.proofs.Common.{◌<◌, ◌+◌, length, subst, sym}
+use Rattle.std.proofs.Common.{◌<◌, ◌+◌, length, refl, subst, sym}
 use Rattle.pl_node.specs.ManagerViews.{Told, switches}
 use Rattle.pl_registry.specs.Askers.{pod_holders}
 use Rattle.pl_manager.specs.Manager.{manager_view}
-use Rattle.pl_manager.proofs.Heard.{address_told, aged_told, link_told, members_told, place_told, pod_told, question_told}
+use Rattle.pl_manager.proofs.Heard.{address_told, aged_told, link_told, members_told, passed_over, place_told, pod_told, question_told}
 use Rattle.pl_manager.proofs.Pods.{few_heard}
 use Rattle.pl_manager.proofs.manager_logic.ManagerManagerLogic.hears.Goals as goal
 
@@ -35,6 +35,12 @@ pub returns-in-Aged-clause-step : goal.returns-in-Aged-clause-step
 returns-in-Aged-clause-step c =
     aged_told c.age.result (manager_view c.args.self.now) c.args.switch c.args.says.now c.args.out.now c.age.new.out
     c.in-Aged.pmac c.in-Aged.number c.age.new.registry c.in-Aged.is c.age.ensures.learnt c.age.ensures.acts
+
+pub returns-in-Begin : goal.returns-in-Begin
+returns-in-Begin c = record {
+  step = passed_over (manager_view c.args.self.now) c.args.switch c.args.out.now c.args.out.now c.args.says.now c.in-Begin.is;
+  k = refl;
+}
 
 pub returns-in-Query-clause-step : goal.returns-in-Query-clause-step
 returns-in-Query-clause-step c =

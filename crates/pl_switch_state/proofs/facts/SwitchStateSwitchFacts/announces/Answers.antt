@@ -9,4 +9,4 @@ pub returns : goal.returns
 returns c =
     let s = c.self.inside in
     subst (λ (v : SwitchView). IsTrue c.announces.result ↔ IsAnnounced v c.args.port c.args.frame.now) c.self.view_is
-    (c.announces.ensures (state_view s.ports s.proposer s.holder s.edge s.avoid s.parts.entries))
+    (c.announces.ensures (state_view s.ports s.proposer s.holder s.edge s.avoid s.parts.entries s.epoch))

@@ -7,5 +7,5 @@ use Rattle.pl_switch_state.proofs.facts.SwitchStateSwitchFacts.granted.Goals as 
 pub returns : goal.returns
 returns c =
     let s = c.self.inside in
-    c.granted.ensures (state_view s.ports s.proposer s.holder s.edge s.avoid s.parts.entries)
+    c.granted.ensures (state_view s.ports s.proposer s.holder s.edge s.avoid s.parts.entries s.epoch)
     ∙ ap (λ (v : SwitchView). has_granted v c.args.port) c.self.view_is

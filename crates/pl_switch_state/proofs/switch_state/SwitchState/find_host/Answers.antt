@@ -42,12 +42,13 @@ returns-clause-taken c =
     let s = c.self.inside in
     let avoid = s.avoid in
     let parts = s.parts.entries in
+    let epoch = s.epoch in
     on_ok c.settle.result
-    (λ taken. row_settled c.args.self.now s.ports c.host_frame.new.self s.proposer s.proposer s.holder s.holder s.edge avoid parts (λ u. becomes_edge (with_host u c.args.port))
-    c.standing-before.result (state_view c.settle.new.ports c.settle.new.proposer s.holder c.settle.new.edge avoid parts) c.args.out.now c.settle.new.out c.self.view_is
-    (host_found s.ports c.host_frame.new.self s.proposer s.holder s.edge avoid parts c.args.port (ap (λ u. takes_host u c.args.port) c.self.view_is ∙ c.requires.host) c.host_frame.ensures.view)
+    (λ taken. row_settled c.args.self.now s.ports c.host_frame.new.self s.proposer s.proposer s.holder s.holder s.edge avoid parts epoch (λ u. becomes_edge (with_host u c.args.port))
+    c.standing-before.result (state_view c.settle.new.ports c.settle.new.proposer s.holder c.settle.new.edge avoid parts epoch) c.args.out.now c.settle.new.out c.self.view_is
+    (host_found s.ports c.host_frame.new.self s.proposer s.holder s.edge avoid parts epoch c.args.port (ap (λ u. takes_host u c.args.port) c.self.view_is ∙ c.requires.host) c.host_frame.ensures.view)
     (sym (host_keeps c.self.inside.ports c.host_frame.new.self (ports_alone c.self.inside.ports) c.args.port (ap (λ u. takes_host u c.args.port) c.self.view_is ∙ c.requires.host) c.host_frame.ensures.view).k) c.standing-before.ensures
-    (λ before same stands. taken before s.holder avoid parts same stands))
+    (λ before same stands. taken before s.holder avoid parts epoch same stands))
     c.settle.ensures.taken
 
 pub returns-clause-id : goal.returns-clause-id
@@ -66,9 +67,9 @@ returns-clause-edge c =
 pub returns-then-knows_host-clause-taken : goal.returns-then-knows_host-clause-taken
 returns-then-knows_host-clause-taken c =
     let s = c.self.inside in
-    known_by_parts c.args.self.now s.ports s.proposer s.holder s.edge s.avoid s.parts.entries c.args.port c.args.out.now c.self.view_is (sym c.knows_host.ensures.known ∙ c.if-knows_host.true)
+    known_by_parts c.args.self.now s.ports s.proposer s.holder s.edge s.avoid s.parts.entries s.epoch c.args.port c.args.out.now c.self.view_is (sym c.knows_host.ensures.known ∙ c.if-knows_host.true)
 
 pub returns-then-knows_host-clause-edge : goal.returns-then-knows_host-clause-edge
 returns-then-knows_host-clause-edge c =
     let s = c.self.inside in
-    known_edge c.args.self.now s.ports s.proposer s.holder s.edge s.avoid s.parts.entries c.args.port c.self.view_is (sym c.knows_host.ensures.known ∙ c.if-knows_host.true)
+    known_edge c.args.self.now s.ports s.proposer s.holder s.edge s.avoid s.parts.entries s.epoch c.args.port c.self.view_is (sym c.knows_host.ensures.known ∙ c.if-knows_host.true)

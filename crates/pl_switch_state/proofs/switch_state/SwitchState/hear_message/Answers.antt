@@ -43,12 +43,13 @@ returns-clause-taken c =
     let h = c.note_edge.new.holder in
     let avoid = s.avoid in
     let parts = s.parts.entries in
+    let epoch = s.epoch in
     on_ok c.settle.result
-    (λ taken. row_settled c.args.self.now s.ports c.learn.new.self s.proposer s.proposer s.holder h s.edge avoid parts (λ u. after_message u c.args.port c.args.id c.args.ldm.now)
-    c.standing-before.result (state_view c.settle.new.ports c.settle.new.proposer h c.settle.new.edge avoid parts) c.args.out.now c.settle.new.out c.self.view_is
-    (message_heard s.ports c.heard.new.self c.learn.new.self s.proposer s.holder h s.edge avoid parts c.args.port c.args.id c.args.ldm.now c.heard.ensures.view c.learn.ensures c.note_edge.ensures.noted)
+    (λ taken. row_settled c.args.self.now s.ports c.learn.new.self s.proposer s.proposer s.holder h s.edge avoid parts epoch (λ u. after_message u c.args.port c.args.id c.args.ldm.now)
+    c.standing-before.result (state_view c.settle.new.ports c.settle.new.proposer h c.settle.new.edge avoid parts epoch) c.args.out.now c.settle.new.out c.self.view_is
+    (message_heard s.ports c.heard.new.self c.learn.new.self s.proposer s.holder h s.edge avoid parts epoch c.args.port c.args.id c.args.ldm.now c.heard.ensures.view c.learn.ensures c.note_edge.ensures.noted)
     (sym (message_keeps c.self.inside.ports c.heard.new.self c.learn.new.self (ports_alone c.self.inside.ports) c.args.port c.args.id c.args.ldm.now c.heard.ensures.view c.learn.ensures).k) c.standing-before.ensures
-    (λ before same stands. taken before h avoid parts same stands))
+    (λ before same stands. taken before h avoid parts epoch same stands))
     c.settle.ensures.taken
 
 pub returns-clause-id : goal.returns-clause-id

@@ -13,7 +13,7 @@ use Rattle.pl_switch_state.proofs.switch_state.SwitchState.hear_pod.Goals as goa
 abbrev same : (c : goal.Then-not-take_pod) → c.take_pod.new.self ≡ c.self.inside.ports
 same c =
     let s = c.self.inside in
-    pod_not_taken s.ports c.take_pod.new.self (state_view s.ports s.proposer s.holder s.edge s.avoid s.parts.entries) c.args.pod (sym c.take_pod.ensures.told ∙ c.if-not-take_pod.true) c.take_pod.ensures.view
+    pod_not_taken s.ports c.take_pod.new.self (state_view s.ports s.proposer s.holder s.edge s.avoid s.parts.entries s.epoch) c.args.pod (sym c.take_pod.ensures.told ∙ c.if-not-take_pod.true) c.take_pod.ensures.view
 
 pub invariant_of-self : goal.invariant_of-self
 invariant_of-self c =
@@ -22,9 +22,9 @@ invariant_of-self c =
 pub returns-then-not-take_pod-clause-taken : goal.returns-then-not-take_pod-clause-taken
 returns-then-not-take_pod-clause-taken c =
     let s = c.self.inside in
-    pod_ignored c.args.self.now (state_view c.take_pod.new.self s.proposer s.holder s.edge s.avoid s.parts.entries) c.args.pod c.args.out.now
+    pod_ignored c.args.self.now (state_view c.take_pod.new.self s.proposer s.holder s.edge s.avoid s.parts.entries s.epoch) c.args.pod c.args.out.now
     (ap (λ u. takes_pod u c.args.pod) (sym c.self.view_is) ∙ sym c.take_pod.ensures.told ∙ c.if-not-take_pod.true)
-    (ap (λ p. state_view p s.proposer s.holder s.edge s.avoid s.parts.entries) (same c) ∙ c.self.view_is)
+    (ap (λ p. state_view p s.proposer s.holder s.edge s.avoid s.parts.entries s.epoch) (same c) ∙ c.self.view_is)
 
 pub returns-then-not-take_pod-clause-id : goal.returns-then-not-take_pod-clause-id
 returns-then-not-take_pod-clause-id c = ap (λ (p : PortsView). p.id) (same c) ∙ ap (λ (u : SwitchView). u.id) c.self.view_is
@@ -64,15 +64,16 @@ returns-clause-taken c =
     let s = c.self.inside in
     let avoid = s.avoid in
     let parts = s.parts.entries in
+    let epoch = s.epoch in
     let is_taken = sym c.take_pod.ensures.told ∙ c.if-not-take_pod.false in
     on_ok c.settle.result
-    (λ taken. pod_heard c.args.self.now (state_view c.settle.new.ports c.settle.new.proposer s.holder c.settle.new.edge avoid parts) c.args.pod c.args.out.now c.settle.new.out
+    (λ taken. pod_heard c.args.self.now (state_view c.settle.new.ports c.settle.new.proposer s.holder c.settle.new.edge avoid parts epoch) c.args.pod c.args.out.now c.settle.new.out
     (ap (λ u. takes_pod u c.args.pod) (sym c.self.view_is) ∙ is_taken)
-    (row_settled c.args.self.now s.ports c.take_pod.new.self s.proposer s.proposer s.holder s.holder s.edge avoid parts (λ u. with_pod u (Some c.args.pod))
-    c.standing-before.result (state_view c.settle.new.ports c.settle.new.proposer s.holder c.settle.new.edge avoid parts) c.args.out.now c.settle.new.out c.self.view_is
-    (pod_taken (ports_alone c.self.inside.ports) s.ports c.take_pod.new.self s.proposer s.holder s.edge avoid parts c.args.pod is_taken c.take_pod.ensures.view)
+    (row_settled c.args.self.now s.ports c.take_pod.new.self s.proposer s.proposer s.holder s.holder s.edge avoid parts epoch (λ u. with_pod u (Some c.args.pod))
+    c.standing-before.result (state_view c.settle.new.ports c.settle.new.proposer s.holder c.settle.new.edge avoid parts epoch) c.args.out.now c.settle.new.out c.self.view_is
+    (pod_taken (ports_alone c.self.inside.ports) s.ports c.take_pod.new.self s.proposer s.holder s.edge avoid parts epoch c.args.pod is_taken c.take_pod.ensures.view)
     (sym (pod_keeps c.self.inside.ports c.take_pod.new.self (ports_alone c.self.inside.ports) c.args.pod c.take_pod.ensures.view).k) c.standing-before.ensures
-    (λ before like stands. taken before s.holder avoid parts like stands)))
+    (λ before like stands. taken before s.holder avoid parts epoch like stands)))
     c.settle.ensures.taken
 
 pub returns-clause-id : goal.returns-clause-id

@@ -20,6 +20,6 @@ returns-clause-taken c =
     let s = c.self.inside in
     on_ok c.answer_proposal.result
     (λ taken. subst (λ v. IsTaken (hears_proposal v c.args.port c.args.edge c.args.proposal)
-    (state_view s.ports s.proposer c.answer_proposal.new.holder s.edge s.avoid s.parts.entries) c.args.out.now c.answer_proposal.new.out) c.self.view_is
-    (taken s.proposer s.edge s.avoid s.parts.entries))
+    (state_view s.ports s.proposer c.answer_proposal.new.holder s.edge s.avoid s.parts.entries s.epoch) c.args.out.now c.answer_proposal.new.out) c.self.view_is
+    (taken s.proposer s.edge s.avoid s.parts.entries s.epoch))
     c.answer_proposal.ensures.taken

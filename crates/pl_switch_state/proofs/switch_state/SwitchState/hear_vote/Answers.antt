@@ -33,12 +33,13 @@ returns-clause-taken c =
     let s = c.self.inside in
     let avoid = s.avoid in
     let parts = s.parts.entries in
+    let epoch = s.epoch in
     on_ok c.settle.result
-    (λ taken. row_settled c.args.self.now s.ports c.count_vote.new.ports s.proposer c.count_vote.new.proposer s.holder s.holder s.edge avoid parts (λ u. after_vote u c.args.port c.args.vote.now)
-    c.standing-before.result (state_view c.settle.new.ports c.settle.new.proposer s.holder c.settle.new.edge avoid parts) c.args.out.now c.settle.new.out c.self.view_is
-    (vote_counted s.ports c.count_vote.new.ports s.proposer c.count_vote.new.proposer s.holder s.edge avoid parts c.args.port c.args.vote.now c.self.invariant.position c.count_vote.ensures.position c.count_vote.ensures.counted)
+    (λ taken. row_settled c.args.self.now s.ports c.count_vote.new.ports s.proposer c.count_vote.new.proposer s.holder s.holder s.edge avoid parts epoch (λ u. after_vote u c.args.port c.args.vote.now)
+    c.standing-before.result (state_view c.settle.new.ports c.settle.new.proposer s.holder c.settle.new.edge avoid parts epoch) c.args.out.now c.settle.new.out c.self.view_is
+    (vote_counted s.ports c.count_vote.new.ports s.proposer c.count_vote.new.proposer s.holder s.edge avoid parts epoch c.args.port c.args.vote.now c.self.invariant.position c.count_vote.ensures.position c.count_vote.ensures.counted)
     (sym c.count_vote.ensures.k) c.standing-before.ensures
-    (λ before same stands. taken before s.holder avoid parts same stands))
+    (λ before same stands. taken before s.holder avoid parts epoch same stands))
     c.settle.ensures.taken
 
 pub returns-clause-id : goal.returns-clause-id

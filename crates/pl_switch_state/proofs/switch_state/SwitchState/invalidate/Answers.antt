@@ -17,7 +17,7 @@ pub returns-clause-taken : goal.returns-clause-taken
 returns-clause-taken c =
     let inside = c.self.inside in
     let after = c.invalidate.new.self in
-    taken_by_table c.args.self.now inside.ports inside.proposer inside.holder inside.edge after inside.avoid inside.parts.entries
+    taken_by_table c.args.self.now inside.ports inside.proposer inside.holder inside.edge after inside.avoid inside.parts.entries inside.epoch
     (λ u. invalidates u c.args.old c.args.to (held_here u c.args.old)) c.args.out.now c.invalidate.new.out c.invalidate.result
     c.self.view_is c.self.invariant.address_table
     (same_address_table_at inside.edge after inside.ports.place (record { k = c.invalidate.ensures.k; place = c.invalidate.ensures.place }) c.self.invariant.address_table)

@@ -8,7 +8,7 @@ use Rattle.pl_switch_state.proofs.switch_state.SwitchState.is_granted.Goals as g
 pub returns : goal.returns
 returns c =
     let inside = c.self.inside in
-    let v : SwitchView = state_view inside.ports inside.proposer inside.holder inside.edge inside.avoid inside.parts.entries in
+    let v : SwitchView = state_view inside.ports inside.proposer inside.holder inside.edge inside.avoid inside.parts.entries inside.epoch in
     c.is_granted.ensures
     ∙ granted_by inside.edge.address_table inside.edge.k v c.args.address c.self.invariant.address_table refl
     ∙ ap (λ w. is_granted w c.args.address) c.self.view_is

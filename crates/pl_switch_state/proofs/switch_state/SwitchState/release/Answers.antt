@@ -13,7 +13,7 @@ pub returns-clause-taken : goal.returns-clause-taken
 returns-clause-taken c =
     let inside = c.self.inside in
     let after = c.release.new.self in
-    taken_anywhere c.args.self.now inside.ports inside.proposer inside.holder inside.edge after inside.avoid inside.parts.entries
+    taken_anywhere c.args.self.now inside.ports inside.proposer inside.holder inside.edge after inside.avoid inside.parts.entries inside.epoch
     (λ u. frees u c.args.pmac (granted u c.args.pmac)) c.args.out.now c.release.new.out c.release.result
     c.self.view_is c.self.invariant.address_table
     (same_address_table_at inside.edge after inside.ports.place (record { k = c.release.ensures.k; place = c.release.ensures.place })

@@ -18,7 +18,7 @@ pub returns-clause-taken : goal.returns-clause-taken
 returns-clause-taken c =
     let s = c.self.inside in
     on_ok c.tick_both.result
-    (λ taken. subst (λ v. IsTaken (ticks v) (state_view c.tick_both.new.ports s.proposer s.holder c.tick_both.new.edge s.avoid s.parts.entries)
+    (λ taken. subst (λ v. IsTaken (ticks v) (state_view c.tick_both.new.ports s.proposer s.holder c.tick_both.new.edge s.avoid s.parts.entries s.epoch)
     c.args.out.now c.tick_both.new.out) c.self.view_is
-    (taken s.holder s.avoid s.parts.entries c.self.invariant.position c.self.invariant.address_table.at))
+    (taken s.holder s.avoid s.parts.entries s.epoch c.self.invariant.position c.self.invariant.address_table.at))
     c.tick_both.ensures.taken

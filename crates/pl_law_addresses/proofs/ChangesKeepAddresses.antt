@@ -44,6 +44,9 @@ module _ (own : Mac → Option Ip4) where
   word_kept f g keeps (tell.Link u usable) is = tt
   word_kept f g keeps tell.PodWanted is = tt
   word_kept f g keeps (tell.Aged x number) is = (is.0, keeps x is.0 is.1)
+  word_kept f g keeps (tell.Begin epoch) is = tt
+  word_kept f g keeps (tell.End epoch) is = tt
+  word_kept f g keeps (tell.Trapped trapped toward numbered) is = tt
   word_kept f g keeps (tell.Query asker asker_ip ip) is = tt
   word_kept f g keeps (tell.Members group any) is = tt
 
@@ -55,6 +58,7 @@ module _ (own : Mac → Option Ip4) where
   order_kept : (f g : Pmac → Option Grant) → KeepsHolders f g → (order : ToSwitch) → IsGoodOrder own f order → IsGoodOrder own g order
   order_kept f g keeps (say.Invalidate old new number ip) is = record { mac = is.mac; granted_to = keeps old is.mac is.granted_to; own_ip = is.own_ip }
   order_kept f g keeps (say.Release x) is = (is.0, keeps x is.0 is.1)
+  order_kept f g keeps (say.Hello epoch) is = absurd is
   order_kept f g keeps (say.Pod pod) is = tt
   order_kept f g keeps (say.Answer asker asker_ip ip pmac) is = tt
   order_kept f g keeps (say.Flood asker asker_ip ip) is = tt

@@ -263,6 +263,18 @@ module _ (plan : Plan) (is_plan : IsPlan plan) (words : List Word) (switches : L
       let reply = Say id (say.Pod (unwrap_or (pod_given after.pods id) 0)) ∷ [] in
       other_heard plan is_plan words switches up down a many apart s id named v found items within tell.PodWanted head (λ y. refl) (λ y. refl) after (reply ++ avoid_acts before.told after.told ++ tree_acts before after) refl refl
       (all_plain plan before after reply (λ t is. tt, tt))
+  heard_addressed (tell.Begin epoch) head =
+      let before = known plan.k words in
+      other_heard plan is_plan words switches up down a many apart s id named v found items within (tell.Begin epoch) head (λ y. refl) (λ y. refl) before ([] ++ avoid_acts before.told before.told ++ tree_acts before before) refl refl
+      (all_plain plan before before [] tt)
+  heard_addressed (tell.End epoch) head =
+      let before = known plan.k words in
+      other_heard plan is_plan words switches up down a many apart s id named v found items within (tell.End epoch) head (λ y. refl) (λ y. refl) before ([] ++ avoid_acts before.told before.told ++ tree_acts before before) refl refl
+      (all_plain plan before before [] tt)
+  heard_addressed (tell.Trapped trapped toward numbered) head =
+      let before = known plan.k words in
+      other_heard plan is_plan words switches up down a many apart s id named v found items within (tell.Trapped trapped toward numbered) head (λ y. refl) (λ y. refl) before ([] ++ avoid_acts before.told before.told ++ tree_acts before before) refl refl
+      (all_plain plan before before [] tt)
   heard_addressed (tell.Query asker asker_ip ip) head =
       let before = known plan.k words in
       let reply = Say id (answer_to asker asker_ip ip (lookup before.learnt ip)) ∷ [] in

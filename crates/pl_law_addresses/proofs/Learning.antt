@@ -46,11 +46,13 @@ use Rattle.pl_law_addresses.proofs.AddressLemmas.{any_rest, is_or_other, other_t
 abbrev pub IsPlain : ToSwitch → Type 0
 IsPlain (say.Invalidate old new number ip) = ⊥
 IsPlain (say.Release x) = ⊥
+IsPlain (say.Hello epoch) = ⊥
 IsPlain says = Unit {0}
 
 plain_silent : (y : Pmac) (says : ToSwitch) → IsPlain says → order_of y says ≡ []
 plain_silent y (say.Invalidate old new number ip) is = absurd is
 plain_silent y (say.Release x) is = absurd is
+plain_silent y (say.Hello epoch) is = absurd is
 plain_silent y says is = refl
 
 module _ (plan : Plan) (switches : List SwitchView) where
@@ -61,6 +63,7 @@ module _ (plan : Plan) (switches : List SwitchView) where
   pub plain_fits : (t : ℕ) (says : ToSwitch) → IsPlain says → IsFit t says
   plain_fits t (say.Invalidate old new number ip) is = absurd is
   plain_fits t (say.Release x) is = absurd is
+  plain_fits t (say.Hello epoch) is = absurd is
   plain_fits t says is = λ u found. tt
 
 module _ (plan : Plan) where

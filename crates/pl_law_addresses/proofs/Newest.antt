@@ -153,6 +153,9 @@ all_in_order k (w ∷ before) = by (all_in_order k before) w.says
     by all tell.PodWanted = all
     by all (tell.Place place) = all
     by all (tell.Link u usable) = all
+    by all (tell.Begin epoch) = all
+    by all (tell.End epoch) = all
+    by all (tell.Trapped trapped toward numbered) = all
     by all (tell.Query asker asker_ip ip) = all
     by all (tell.Members group any) = all
 

@@ -68,6 +68,9 @@ module _ (own : Mac → Option Ip4) (f g : Pmac → Option Grant) (x : Pmac) (ot
   words_left (tell.Place place ∷ up) none all = (tt, words_left up none all.1)
   words_left (tell.Link u usable ∷ up) none all = (tt, words_left up none all.1)
   words_left (tell.PodWanted ∷ up) none all = (tt, words_left up none all.1)
+  words_left (tell.Begin epoch ∷ up) none all = (tt, words_left up none all.1)
+  words_left (tell.End epoch ∷ up) none all = (tt, words_left up none all.1)
+  words_left (tell.Trapped trapped toward numbered ∷ up) none all = (tt, words_left up none all.1)
   words_left (tell.Query asker asker_ip ip ∷ up) none all = (tt, words_left up none all.1)
   words_left (tell.Members group any ∷ up) none all = (tt, words_left up none all.1)
 
@@ -93,6 +96,7 @@ module _ (own : Mac → Option Ip4) (f g : Pmac → Option Grant) (x : Pmac) (ot
   orders_left (say.Answer asker asker_ip ip pmac ∷ down) none all = (tt, orders_left down none all.1)
   orders_left (say.Flood asker asker_ip ip ∷ down) none all = (tt, orders_left down none all.1)
   orders_left (say.Avoid list ∷ down) none all = (tt, orders_left down none all.1)
+  orders_left (say.Hello epoch ∷ down) none all = absurd all.0
   orders_left (say.Tree group part ∷ down) none all = (tt, orders_left down none all.1)
 
 -- ---- the release is heard

@@ -89,25 +89,26 @@ module _ (own : Mac → Option Ip4) (r : Registry) (id : Option SwitchId) (choos
         (λ host. host_frame v port frame (fair other host))
         (λ h. aside_steps own r id down v (comes_from_switch choose v port frame) (switch_frame_aside choose v port frame)))
 
-    says_row : (v : SwitchView) (says : ToSwitch) → ((x : Pmac) → order_of x says ≡ []) → Steps own r id down v (hears_manager choose v says)
-    says_row v (say.Pod pod) quiet =
+    says_row : (v : SwitchView) (says : ToSwitch) → ((x : Pmac) → order_of x says ≡ []) → ((epoch : ℕ) → says ≡ say.Hello epoch → ⊥) → Steps own r id down v (hears_manager choose v says)
+    says_row v (say.Hello epoch) quiet other = absurd (other epoch refl)
+    says_row v (say.Pod pod) quiet other =
         cond_both (takes_pod v pod) (changes_to v (with_pod v (Some pod))) (rests v) (Steps own r id down v)
         (λ takes. steps_changes own r id down v (with_pod v (Some pod)) (pod_placing v pod takes))
         (λ h. keeps_steps own r id down v (rests v) (rests_keeps own r id down v))
-    says_row v (say.Avoid list) quiet = aside_steps own r id down v (hears_manager choose v (say.Avoid list))
+    says_row v (say.Avoid list) quiet other = aside_steps own r id down v (hears_manager choose v (say.Avoid list))
         (record { place = refl; k = refl; grants = refl; freed = refl; remembered = refl; silent = tt })
-    says_row v (say.Tree group part) quiet = aside_steps own r id down v (hears_manager choose v (say.Tree group part))
+    says_row v (say.Tree group part) quiet other = aside_steps own r id down v (hears_manager choose v (say.Tree group part))
         (record { place = refl; k = refl; grants = refl; freed = refl; remembered = refl; silent = tt })
-    says_row v (say.Answer asker asker_ip ip pmac) quiet =
+    says_row v (say.Answer asker asker_ip ip pmac) quiet other =
         steps_either own r id down v (is_granted v asker) (makes choose (answer_frame asker asker_ip ip pmac) v) (rests v)
         (λ h. aside_steps own r id down v (makes choose (answer_frame asker asker_ip ip pmac) v) (makes_aside choose (answer_frame asker asker_ip ip pmac) v))
         (λ h. keeps_steps own r id down v (rests v) (rests_keeps own r id down v))
-    says_row v (say.Flood asker asker_ip ip) quiet =
+    says_row v (say.Flood asker asker_ip ip) quiet other =
         steps_either own r id down v (is_granted v asker) (floods v (flood_frame asker asker_ip ip)) (rests v)
         (λ h. aside_steps own r id down v (floods v (flood_frame asker asker_ip ip)) (floods_aside v (flood_frame asker asker_ip ip)))
         (λ h. keeps_steps own r id down v (rests v) (rests_keeps own r id down v))
-    says_row v (say.Release x) quiet = let e : Releases ∷ [] ≡ [] = sym (released_here x) ∙ quiet x in absurd (cc)
-    says_row v (say.Invalidate old new number ip) quiet = let e : Recalls new number ∷ [] ≡ [] = sym (ordered_here old new number ip) ∙ quiet old in absurd (cc)
+    says_row v (say.Release x) quiet other = let e : Releases ∷ [] ≡ [] = sym (released_here x) ∙ quiet x in absurd (cc)
+    says_row v (say.Invalidate old new number ip) quiet other = let e : Recalls new number ∷ [] ≡ [] = sym (ordered_here old new number ip) ∙ quiet old in absurd (cc)
 
   -- what a step brings about, from what waited before it to what waits after it
   pub record Brings (before after : List ToSwitch) (v : SwitchView) (s : SwitchStep) : Type 0 where
@@ -126,9 +127,9 @@ module _ (own : Mac → Option Ip4) (r : Registry) (id : Option SwitchId) (choos
   pub brings_tick : (down : List ToSwitch) (v : SwitchView) → Brings down down v (switch_step choose v Tick)
   brings_tick down v = of_steps down v (ticks v) (keeps_steps own r id down v (ticks v) (keeps_tick own r id down v))
 
-  quiet_order : (rest : List ToSwitch) (v : SwitchView) (says : ToSwitch) → ((x : Pmac) → order_of x says ≡ []) → Brings (says ∷ rest) rest v (hears_manager choose v says)
-  quiet_order rest v says quiet =
-      let a = says_row rest v says quiet in
+  quiet_order : (rest : List ToSwitch) (v : SwitchView) (says : ToSwitch) → ((x : Pmac) → order_of x says ≡ []) → ((epoch : ℕ) → says ≡ say.Hello epoch → ⊥) → Brings (says ∷ rest) rest v (hears_manager choose v says)
+  quiet_order rest v says quiet other =
+      let a = says_row rest v says quiet other in
       record {
         good = λ unknown up good. a.good unknown up (record { edge = takes_order own r (edge_of id v up rest) says rest quiet good.edge; address_table = good.address_table });
         turns = λ up unknown good.
@@ -158,8 +159,13 @@ module _ (own : Mac → Option Ip4) (r : Registry) (id : Option SwitchId) (choos
     where
       released : (up : List ToManager) → Good own r id (say.Release x ∷ rest) v up → Released own r id rest x v up (frees v x (granted v x))
       released up good = release_good own r id rest x v up good
-  brings_order rest v (say.Pod pod) = quiet_order rest v (say.Pod pod) (λ x. refl)
-  brings_order rest v (say.Avoid list) = quiet_order rest v (say.Avoid list) (λ x. refl)
-  brings_order rest v (say.Tree group part) = quiet_order rest v (say.Tree group part) (λ x. refl)
-  brings_order rest v (say.Answer asker asker_ip ip pmac) = quiet_order rest v (say.Answer asker asker_ip ip pmac) (λ x. refl)
-  brings_order rest v (say.Flood asker asker_ip ip) = quiet_order rest v (say.Flood asker asker_ip ip) (λ x. refl)
+  brings_order rest v (say.Hello epoch) = record {
+    good = λ unknown up good. absurd good.edge.orders.0;
+    turns = λ up unknown good. absurd good.edge.orders.0;
+    place = λ up good settled. absurd good.edge.orders.0;
+  }
+  brings_order rest v (say.Pod pod) = quiet_order rest v (say.Pod pod) (λ x. refl) (λ epoch e. absurd (cc e))
+  brings_order rest v (say.Avoid list) = quiet_order rest v (say.Avoid list) (λ x. refl) (λ epoch e. absurd (cc e))
+  brings_order rest v (say.Tree group part) = quiet_order rest v (say.Tree group part) (λ x. refl) (λ epoch e. absurd (cc e))
+  brings_order rest v (say.Answer asker asker_ip ip pmac) = quiet_order rest v (say.Answer asker asker_ip ip pmac) (λ x. refl) (λ epoch e. absurd (cc e))
+  brings_order rest v (say.Flood asker asker_ip ip) = quiet_order rest v (say.Flood asker asker_ip ip) (λ x. refl) (λ epoch e. absurd (cc e))

@@ -106,6 +106,7 @@ pub record IsGoodRecall (own : Mac → Option Ip4) (granted : Pmac → Option Gr
 abbrev pub IsGoodOrder : (Mac → Option Ip4) → (Pmac → Option Grant) → ToSwitch → Type 0
 IsGoodOrder own granted (say.Invalidate old new number ip) = IsGoodRecall own granted old ip
 IsGoodOrder own granted (say.Release x) = IsHeld granted x
+IsGoodOrder own granted (say.Hello epoch) = ⊥
 IsGoodOrder own granted says = Unit {0}
 
 -- What was granted under an address: the IPv4 addresses that are kept with it are its host's own, and in use the manager was told that of the

@@ -91,6 +91,9 @@ report_later plan s old new later (tell.Link u usable) so = so
 report_later plan s old new later tell.PodWanted so = so
 report_later plan s old new later (tell.Learned pmac amac ip) so = so
 report_later plan s old new later (tell.Aged pmac number) so = so
+report_later plan s old new later (tell.Begin epoch) so = so
+report_later plan s old new later (tell.End epoch) so = so
+report_later plan s old new later (tell.Trapped trapped toward numbered) so = so
 report_later plan s old new later (tell.Query asker asker_ip ip) so = so
 report_later plan s old new later (tell.Members group any) so = so
 
@@ -142,6 +145,9 @@ module _ (plan : Plan) (s : ℕ) where
   near_words (tell.PodWanted ∷ words) quiet = (tt, near_words words quiet)
   near_words (tell.Learned pmac amac ip ∷ words) quiet = (tt, near_words words quiet)
   near_words (tell.Aged pmac number ∷ words) quiet = (tt, near_words words quiet)
+  near_words (tell.Begin epoch ∷ words) quiet = (tt, near_words words quiet)
+  near_words (tell.End epoch ∷ words) quiet = (tt, near_words words quiet)
+  near_words (tell.Trapped trapped toward numbered ∷ words) quiet = (tt, near_words words quiet)
   near_words (tell.Query asker asker_ip ip ∷ words) quiet = (tt, near_words words quiet)
   near_words (tell.Members group any ∷ words) quiet = (tt, near_words words quiet)
 
@@ -153,6 +159,9 @@ module _ (plan : Plan) (s : ℕ) where
   both_true own (tell.PodWanted ∷ words) said near = (tt, both_true own words said.1 near.1)
   both_true own (tell.Learned pmac amac ip ∷ words) said near = (tt, both_true own words said.1 near.1)
   both_true own (tell.Aged pmac number ∷ words) said near = (tt, both_true own words said.1 near.1)
+  both_true own (tell.Begin epoch ∷ words) said near = (tt, both_true own words said.1 near.1)
+  both_true own (tell.End epoch ∷ words) said near = (tt, both_true own words said.1 near.1)
+  both_true own (tell.Trapped trapped toward numbered ∷ words) said near = (tt, both_true own words said.1 near.1)
   both_true own (tell.Query asker asker_ip ip ∷ words) said near = (tt, both_true own words said.1 near.1)
   both_true own (tell.Members group any ∷ words) said near = (said.0, both_true own words said.1 near.1)
 
@@ -185,6 +194,7 @@ module _ (plan : Plan) (is : IsPlan plan) where
   parts_true s (Says (say.Flood a b c)) parts order all = all
   parts_true s (Says (say.Invalidate a b c d)) parts order all = all
   parts_true s (Says (say.Release a)) parts order all = all
+  parts_true s (Says (say.Hello epoch)) parts order all = tt
 
   -- a switch steps
   turn_trees : (f g : ControlPlane) (s : ℕ) (input : SwitchInput) (turns : SwitchTurns Loose f s input g) → ((t : ℕ) → IsTrueOf (f.view t).place (g.view t).place) →
@@ -278,6 +288,9 @@ module _ (plan : Plan) (is : IsPlan plan) where
   reply_true before after id (tell.Learned pmac amac ip) = learning_true before.learnt after.learnt pmac amac
   reply_true before after id (tell.Aged pmac number) =
       released_true before.learnt (hears_aged before.learnt pmac number).acts (aged_releases before.learnt pmac number)
+  reply_true before after id (tell.Begin epoch) = tt
+  reply_true before after id (tell.End epoch) = tt
+  reply_true before after id (tell.Trapped trapped toward numbered) = tt
   reply_true before after id (tell.Query asker asker_ip ip) = (answer_true id asker asker_ip ip (lookup after.learnt ip), tt)
   reply_true before after id (tell.Place place) = tt
   reply_true before after id (tell.Link u usable) = tt
@@ -320,6 +333,9 @@ module _ (plan : Plan) (is : IsPlan plan) where
     places_after views tell.PodWanted so all = all
     places_after views (tell.Learned pmac amac ip) so all = all
     places_after views (tell.Aged pmac number) so all = all
+    places_after views (tell.Begin epoch) so all = all
+    places_after views (tell.End epoch) so all = all
+    places_after views (tell.Trapped trapped toward numbered) so all = all
     places_after views (tell.Query asker asker_ip ip) so all = all
     places_after views (tell.Members group any) so all = all
 
@@ -331,6 +347,9 @@ module _ (plan : Plan) (is : IsPlan plan) where
     links_after own tell.PodWanted so all = all
     links_after own (tell.Learned pmac amac ip) so all = all
     links_after own (tell.Aged pmac number) so all = all
+    links_after own (tell.Begin epoch) so all = all
+    links_after own (tell.End epoch) so all = all
+    links_after own (tell.Trapped trapped toward numbered) so all = all
     links_after own (tell.Query asker asker_ip ip) so all = all
     links_after own (tell.Members group any) so all = all
 
@@ -343,6 +362,9 @@ module _ (plan : Plan) (is : IsPlan plan) where
     members_after own tell.PodWanted so all = all
     members_after own (tell.Learned pmac amac ip) so all = all
     members_after own (tell.Aged pmac number) so all = all
+    members_after own (tell.Begin epoch) so all = all
+    members_after own (tell.End epoch) so all = all
+    members_after own (tell.Trapped trapped toward numbered) so all = all
     members_after own (tell.Query asker asker_ip ip) so all = all
 
   manager_trees : (f m g : ControlPlane) (s : ℕ) (id : SwitchId) (told : ToManager) → f.plan ≡ plan → ((t : ℕ) → IsLevel (level_of plan.k t) (f.view t).place) →

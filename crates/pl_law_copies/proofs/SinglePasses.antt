@@ -1,5 +1,5 @@
 -- All other acts pass each frame on at most once.
-use Rattle.std.proofs.Common.{◌≡◌, ℕ, ◌≤◌, ◌<◌, ◌||◌, Bool, true, false, if◌then◌else◌, List, [], ◌∷◌, ◌++◌, Option, None, Some, length, refl, sym, ap, ◌∙◌, subst, arith}
+use Rattle.std.proofs.Common.{◌≡◌, ℕ, ◌≤◌, ◌<◌, ◌||◌, Bool, true, false, if◌then◌else◌, List, [], ◌∷◌, ◌++◌, map, Option, None, Some, length, refl, sym, ap, ◌∙◌, subst, arith}
 use Rattle.std.specs.List.{AllByRecursion, flat_map}
 use Rattle.std.proofs.lemmas.Bool.{cond_both, false≢true}
 use Rattle.std.proofs.lemmas.List.{append-nil}
@@ -21,7 +21,8 @@ use Rattle.pl_node.specs.AddressUses.{is_in_use}
 use Rattle.pl_node.specs.declared.switch_records.Grant.{Grant}
 use Rattle.pl_node.specs.declared.trap.Trap.{Trap}
 use Rattle.pl_node.specs.declared.messages.ToSwitch.{ToSwitch}
-use Rattle.pl_node.specs.declared.messages.ToSwitch.TheVariants.{Answer, Avoid, Flood, Invalidate, Pod, Release, Tree}
+use Rattle.pl_node.specs.declared.messages.ToManager.{ToManager}
+use Rattle.pl_node.specs.declared.messages.ToSwitch.TheVariants.{Answer, Avoid, Flood, Hello, Invalidate, Pod, Release, Tree}
 use Rattle.pl_node.specs.Accounting.{IsShaped, FrameState, frame_state, frame_state_after}
 use Rattle.pl_node.specs.Accounting.FrameState.{Ended, Passed, Redirected, Silent, Waiting, Wrong}
 use Rattle.pl_node.specs.SwitchViews.{SwitchView}
@@ -29,6 +30,7 @@ use Rattle.pl_steps.specs.Steps.{SwitchStep, does, rests, ◌▹◌}
 use Rattle.pl_switch_rule.specs.Aging.{ages, all_age_out, probe_of, probes_idle, to_probe, to_rest, with_older}
 use Rattle.pl_switch_rule.specs.Announcing.{tells_neighbours, ticks}
 use Rattle.pl_switch_rule.specs.declared.came.Came.{Came}
+use Rattle.pl_switch_rule.specs.Reporting.{report_for}
 use Rattle.pl_switch_rule.specs.declared.came.Came.TheVariants.{FromHost}
 use Rattle.pl_switch_rule.specs.Delivering.{addresses, arrives_home, begins, comes_home, delivers, delivers_or_redirects, delivers_to, destination, goes_on, last_trap, makes, newer_address, redirects, tells_newer, tells_sender, trap_for}
 use Rattle.pl_switch_rule.specs.Forwarding.{Choice, candidates_by, forwards, leaves_by}
@@ -255,6 +257,11 @@ invalidates_single v old trap (Some grant) shaped at =
     (cond_both (is_in_use grant.held) (probes_at old grant.amac grant.ip forgot.view) (rests forgot.view) (λ step. AreSingle false step.acts)
     (λ used. probes_single old grant.amac grant.ip false) (λ unused. tt))
 
+-- words let nothing out
+words_still : (words : List ToManager) → AllByRecursion IsStill (map (λ word. act.Tell word) words)
+words_still [] = tt
+words_still (word ∷ words) = (tt, words_still words)
+
 pub hears_single : (choose : Choice) (v : SwitchView) (says : ToSwitch) → IsShaped v → AreSingle false (hears_manager choose v says).acts
 hears_single choose v (Pod pod) shaped = still_is_single false _ (quiet_still v _ (quiet_hears_pod v pod shaped))
 hears_single choose v (Avoid list) shaped = tt
@@ -267,4 +274,6 @@ hears_single choose v (Flood asker asker_ip ip) shaped =
     (λ known. group_up_single v (flood_frame asker asker_ip ip)) (λ unknown. tt)
 hears_single choose v (Invalidate old new number ip) shaped =
     invalidates_single v old (record { new = new; number = number; ip = ip }) (held_here v old) shaped (held_at v old shaped)
+hears_single choose v (Hello epoch) shaped =
+    still_is_single false (map (λ (word : ToManager). act.Tell word) (report_for epoch v)) (words_still (report_for epoch v))
 hears_single choose v (Release address) shaped = still_is_single false _ (frees_acts IsStill (λ x. tt) v address (granted v address))

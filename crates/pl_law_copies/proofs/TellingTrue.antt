@@ -47,6 +47,7 @@ module _ (own : Place → Type 0) (edge : Type 0) where
     made = λ frame. tt;
     aged = λ address number. tt;
     freed = λ address. tt;
+    reported = record { begun = λ epoch. tt; ended = λ epoch. tt; trapped = λ old new number. tt };
   }
 
   change_acts : (place : Place) → own place → ChangeActs place IsTrueAct

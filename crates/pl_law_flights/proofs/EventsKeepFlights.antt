@@ -12,7 +12,7 @@ use Rattle.pl_wiring.specs.LiveLinks.{is_live}
 use Rattle.pl_wiring.specs.Peers.{peer_of}
 use Rattle.pl_journal.specs.Places.{are_alike, is_host_port}
 use Rattle.pl_node.specs.declared.messages.ToSwitch.{ToSwitch}
-use Rattle.pl_node.specs.declared.messages.ToSwitch.TheVariants.{Answer, Avoid, Flood, Invalidate, Pod, Release, Tree}
+use Rattle.pl_node.specs.declared.messages.ToSwitch.TheVariants.{Answer, Avoid, Flood, Hello, Invalidate, Pod, Release, Tree}
 use Rattle.pl_node.specs.Accounting.{AccountsForFrames, IsShaped}
 use Rattle.pl_node.specs.HostDuties.{HostsKeepFrames, HostsSendData}
 use Rattle.pl_node.specs.HostInputs.{HostRule}
@@ -147,6 +147,7 @@ module _ (manager : ManagerRule) (host : HostRule) (accounts : AccountsForFrames
         | inr stays ↦ inl stays
       ]) given.more
   from_manager_journaled t (Avoid list ∷ items) turn = says_journaled w t (Avoid list) items new accounts counted told on tt turn
+  from_manager_journaled t (Hello epoch ∷ items) turn = says_journaled w t (Hello epoch) items new accounts counted told on tt turn
   from_manager_journaled t (Tree group part ∷ items) turn = says_journaled w t (Tree group part) items new accounts counted told on tt turn
   from_manager_journaled t (Answer asker asker_ip ip pmac ∷ items) turn = says_journaled w t (Answer asker asker_ip ip pmac) items new accounts counted told on tt turn
   from_manager_journaled t (Flood asker asker_ip ip ∷ items) turn = says_journaled w t (Flood asker asker_ip ip) items new accounts counted told on tt turn

@@ -1,6 +1,6 @@
 -- A message of the manager comes at a switch; one that gives a pod is not among them, since addresses may be granted then, nor one that releases an
 -- address.
-use Rattle.std.proofs.Common.{◌≡◌, ℕ, not, nat_lt, true, false, List, [], ◌∷◌, ◌++◌, Option, None, Some, is_some, reverse, set, slice_get, refl, sym, ◌∙◌, ap, subst, inl, inr}
+use Rattle.std.proofs.Common.{◌≡◌, ℕ, not, nat_lt, true, false, List, [], ◌∷◌, ◌++◌, map, Option, None, Some, is_some, reverse, set, slice_get, refl, sym, ◌∙◌, ap, subst, inl, inr}
 use Rattle.std.specs.List.{filter}
 use Rattle.std.proofs.Math.ListN.{length-set}
 use Rattle.std.proofs.lemmas.Bool.{cases_eq, cond_both}
@@ -17,7 +17,8 @@ use Rattle.pl_journal.specs.Flights.{Flight}
 use Rattle.pl_node.specs.declared.acts.Act.{Act}
 use Rattle.pl_node.specs.declared.acts.Act.TheVariants as act
 use Rattle.pl_node.specs.declared.messages.ToSwitch.{ToSwitch}
-use Rattle.pl_node.specs.declared.messages.ToSwitch.TheVariants.{Answer, Avoid, Flood, Invalidate, Pod, Release, Tree}
+use Rattle.pl_node.specs.declared.messages.ToManager.{ToManager}
+use Rattle.pl_node.specs.declared.messages.ToSwitch.TheVariants.{Answer, Avoid, Flood, Hello, Invalidate, Pod, Release, Tree}
 use Rattle.pl_node.specs.AddressUses.{is_in_use, standing_trap}
 use Rattle.pl_node.specs.declared.switch_records.Grant.{Grant}
 use Rattle.pl_node.specs.declared.switch_records.Member.{Member}
@@ -30,6 +31,7 @@ use Rattle.pl_switch_rule.specs.Delivering.{makes}
 use Rattle.pl_switch_rule.specs.Forwarding.{Choice}
 use Rattle.pl_switch_rule.specs.Granting.{granted, held_here, is_granted}
 use Rattle.pl_switch_rule.specs.Intake.{groups_told, is_member}
+use Rattle.pl_switch_rule.specs.Reporting.{hears_hello, report_for}
 use Rattle.pl_switch_rule.specs.Messages.{answer_frame, flood_frame, floods, forgets_members, hears_manager, invalidates, probes_at, sets_trap, sets_trap_over, with_trap}
 use Rattle.pl_switch_rule.specs.SwitchRule.{IsChoice, Loose}
 use Rattle.pl_world.specs.declared.spoken_frame.SpokenFrame.TheVariants.{Silent}
@@ -44,7 +46,7 @@ use Rattle.pl_law_flights.proofs.Hands.{GoodActs, Hand, MayLeave, made_here, tur
 use Rattle.pl_law_flights.proofs.Hands.Hand.{Empty, Spreads, Waits}
 use Rattle.pl_switch_rule.proofs.Exports.{begins_stays, groups_acts, probes_stay}
 use Rattle.pl_law_flights.proofs.ManagerKeepsFlights.{answer_good, flood_good, probe_good}
-use Rattle.pl_law_flights.proofs.SilentSteps.{AreSilent, IsSilent, silent_good, silent_turn}
+use Rattle.pl_law_flights.proofs.SilentSteps.{all_silent_good, AreSilent, IsSilent, silent_good, silent_turn}
 use Rattle.pl_law_flights.proofs.SwitchTurns.{turn_switches}
 
 -- good acts are good where more is known of places
@@ -101,6 +103,11 @@ GivesNothing says = Unit {0}
 pub silent_groups : (old new : List Member) → AreSilent (groups_told old new)
 silent_groups old new = groups_acts IsSilent old new (λ group other. tt)
 
+-- words let nothing out
+words_silent : (words : List ToManager) → AreSilent (map (λ word. act.Tell word) words)
+words_silent [] = tt
+words_silent (word ∷ words) = (tt, words_silent words)
+
 some_granted : (o : Option Grant) → is_some o ≡ true → (grant : Grant) × (o ≡ Some grant)
 some_granted None there = absurd (cc)
 some_granted (Some grant) there = (grant, refl)
@@ -138,6 +145,8 @@ module _ (plan : Plan) (place : ℕ → Place) (history : AddressHistory) (t : �
   pub heard : (says : ToSwitch) → GivesNothing says → IsHeard (hears_manager choose v says)
   heard (Pod pod) none = absurd none
   heard (Avoid list) none = record { good = tt; stays = refl }
+  heard (Hello epoch) none =
+      record { good = all_silent_good plan place history t (hears_hello v epoch).acts Empty (words_silent (report_for epoch v)); stays = refl }
   heard (Tree group part) none = record { good = tt; stays = refl }
   heard (Answer asker asker_ip ip pmac) none = cond_both (is_granted v asker) (makes choose (answer_frame asker asker_ip ip pmac) v) (rests v) IsHeard
       (λ here.

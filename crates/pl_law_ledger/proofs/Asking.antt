@@ -267,6 +267,9 @@ module _ (f : ControlPlane) (is : IsPlan f.plan) (placed : ArePlaced f.plan f) (
     heard_asking s id (tell.Link u usable) there named word reports waiting = record { asked = asking.asked; told = asking.told; waiting = waiting }
     heard_asking s id (tell.Learned x mac ip) there named word reports waiting = record { asked = asking.asked; told = asking.told; waiting = waiting }
     heard_asking s id (tell.Aged x number) there named word reports waiting = record { asked = asking.asked; told = asking.told; waiting = waiting }
+    heard_asking s id (tell.Begin epoch) there named word reports waiting = record { asked = asking.asked; told = asking.told; waiting = waiting }
+    heard_asking s id (tell.End epoch) there named word reports waiting = record { asked = asking.asked; told = asking.told; waiting = waiting }
+    heard_asking s id (tell.Trapped trapped toward numbered) there named word reports waiting = record { asked = asking.asked; told = asking.told; waiting = waiting }
     heard_asking s id (tell.Query asker asker_ip ip) there named word reports waiting = record { asked = asking.asked; told = asking.told; waiting = waiting }
     heard_asking s id (tell.Members group any) there named word reports waiting = record { asked = asking.asked; told = asking.told; waiting = waiting }
 

@@ -2,6 +2,7 @@ pub mod Giving
 pub mod Using
 pub mod Takes
 pub mod AgingTakes
+pub mod Greeting
 pub mod Sourcing
 pub mod StepTakes
 pub mod GrantsWritten

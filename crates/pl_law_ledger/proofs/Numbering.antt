@@ -195,6 +195,9 @@ module _ (k : ℕ) (words : List Word) (id : SwitchId) where
   learns tell.PodWanted =
       let after = view_after (known k words) id tell.PodWanted in
       nothing_learnt tell.PodWanted (Say id (say.Pod (unwrap_or (pod_given after.pods id) 0)) ∷ []) after refl refl
+  learns (tell.Begin epoch) = nothing_learnt (tell.Begin epoch) [] (known k words) refl refl
+  learns (tell.End epoch) = nothing_learnt (tell.End epoch) [] (known k words) refl refl
+  learns (tell.Trapped trapped toward numbered) = nothing_learnt (tell.Trapped trapped toward numbered) [] (known k words) refl refl
   learns (tell.Query asker asker_ip ip) =
       nothing_learnt (tell.Query asker asker_ip ip) (Say id (answer_to asker asker_ip ip (lookup (known k words).learnt ip)) ∷ []) (known k words) refl refl
   learns (tell.Members group any) = nothing_learnt (tell.Members group any) [] (view_after (known k words) id (tell.Members group any)) refl refl

@@ -42,6 +42,7 @@ use Rattle.pl_law_addresses.specs.Registries.{Registry}
 use Rattle.pl_law_addresses.proofs.Exports.{aside_does, edge_placing, floods_aside, forgets_members_aside, granted_within, IsPlacing, keeps_changes, LeavesAddresses, local_settled, makes_aside, message_placing, pod_placing, probes_aside, proposal_aside, switch_frame_aside, takes_in_aside, told_by, vote_placing}
 use Rattle.pl_law_ledger.proofs.AgingTakes.{tick_quiets}
 use Rattle.pl_law_ledger.proofs.Giving.{all_weaker, givings, words_weaker}
+use Rattle.pl_law_ledger.proofs.Greeting.{hello_enters}
 use Rattle.pl_law_ledger.proofs.Sourcing.{changes_takes, learns_takes}
 use Rattle.pl_law_ledger.proofs.Takes.{AreOf, Enters, IsListed, IsToldWell, Quiets, Takes, WasGranted, aside_takes, enters_of, enters_of_quiets, quiets_aside, quiets_then, rests_takes, takes_either, takes_then, unused_quiets}
 use Rattle.pl_law_ledger.proofs.Using.{IsFirstThere, IsUsedAt, same_used}
@@ -241,6 +242,7 @@ module _ (P : ℕ → Mac → Type 0) where
     says_row (say.Flood asker asker_ip ip) = inl (enters_of P v (hears_manager choose v (say.Flood asker asker_ip ip)) (flood_row asker asker_ip ip))
     says_row (say.Invalidate old new number ip) = inl (recalled old (record { new = new; number = number; ip = ip }) (granted v old) refl)
     says_row (say.Release x) = released_row x (granted v x) refl
+    says_row (say.Hello epoch) = inl (hello_enters P v epoch)
 
     pub step_takes : (input : SwitchInput) → ComesWell P v input → Enters P v (switch_step choose v input) ⊎ FreesOne v (switch_step choose v input)
     step_takes (Comes port frame) well = inl (enters_of P v (switch_step choose v (Comes port frame)) (comes_row port frame well))

@@ -308,6 +308,9 @@ manager_ledger w is_plan s told items new addressed formed ids ups downs l head 
     waits (tell.Place place) head ws knows id named v found within = tt
     waits (tell.Link u usable) head ws knows id named v found within = tt
     waits tell.PodWanted head ws knows id named v found within = tt
+    waits (tell.Begin epoch) head ws knows id named v found within = tt
+    waits (tell.End epoch) head ws knows id named v found within = tt
+    waits (tell.Trapped trapped toward numbered) head ws knows id named v found within = tt
     waits (tell.Query asker asker_ip ip) head ws knows id named v found within = tt
     waits (tell.Members group any) head ws knows id named v found within = tt
 
@@ -329,6 +332,12 @@ manager_ledger w is_plan s told items new addressed formed ids ups downs l head 
     by (tell.Link u usable) v learnt after ns word l before found fewer silent =
         nothing_entered w.plan learnt after w.switches w.attachments w.to_manager (set w.to_manager s items) (written w.journal) before fewer ns l
     by tell.PodWanted v learnt after ns word l before found fewer silent =
+        nothing_entered w.plan learnt after w.switches w.attachments w.to_manager (set w.to_manager s items) (written w.journal) before fewer ns l
+    by (tell.Begin epoch) v learnt after ns word l before found fewer silent =
+        nothing_entered w.plan learnt after w.switches w.attachments w.to_manager (set w.to_manager s items) (written w.journal) before fewer ns l
+    by (tell.End epoch) v learnt after ns word l before found fewer silent =
+        nothing_entered w.plan learnt after w.switches w.attachments w.to_manager (set w.to_manager s items) (written w.journal) before fewer ns l
+    by (tell.Trapped trapped toward numbered) v learnt after ns word l before found fewer silent =
         nothing_entered w.plan learnt after w.switches w.attachments w.to_manager (set w.to_manager s items) (written w.journal) before fewer ns l
     by (tell.Query asker asker_ip ip) v learnt after ns word l before found fewer silent =
         nothing_entered w.plan learnt after w.switches w.attachments w.to_manager (set w.to_manager s items) (written w.journal) before fewer ns l

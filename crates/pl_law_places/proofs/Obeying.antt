@@ -1,5 +1,6 @@
 -- A message of the manager keeps places true.
-use Rattle.std.proofs.Common.{◌≡◌, ℕ, ◌<◌, ◌==◌, ◌&&◌, not, Bool, true, false, if◌then◌else◌, [], Some, None, is_none, refl, arith, inl, inr}
+use Rattle.std.proofs.Common.{◌≡◌, ℕ, ◌<◌, ◌==◌, ◌&&◌, not, Bool, true, false, if◌then◌else◌, List, [], ◌∷◌, map, Some, None, is_none, refl, arith, inl, inr}
+use Rattle.std.specs.List.{AllByRecursion}
 use Rattle.std.proofs.lemmas.Bool.{and_parts}
 use Rattle.std.proofs.lemmas.Option.{same_Some}
 use Rattle.pl_lemmas.proofs.Exports.{is_none_is}
@@ -11,19 +12,27 @@ use Rattle.pl_node.specs.SwitchViews.{SwitchView}
 use Rattle.pl_steps.specs.Steps.{rests}
 use Rattle.pl_switch_rule.specs.Levels.{changes_to}
 use Rattle.pl_law_control_plane.specs.ControlPlanes.{ControlPlane}
-use Rattle.pl_law_control_plane.proofs.Exports.{answers_silent, changes_to_silent, floods_silent, frees_silent, invalidates_silent, still_does, still_step}
+use Rattle.pl_law_control_plane.proofs.Exports.{answers_silent, changes_to_silent, floods_silent, frees_silent, invalidates_silent, IsStill, still_does, still_step}
 use Rattle.pl_law_places.specs.Places.{ArePlaced}
 use Rattle.pl_law_places.proofs.Later.{IsGoodTurn}
 use Rattle.pl_law_places.proofs.TurnsWithoutControlFrames.{IsGoodView, new_view, same_ports, silent_turn, view_itself}
+use Rattle.pl_node.specs.declared.acts.Act.TheVariants.{Tell}
+use Rattle.pl_node.specs.declared.messages.ToManager.{ToManager}
 use Rattle.pl_node.specs.declared.messages.ToSwitch.{ToSwitch}
-use Rattle.pl_node.specs.declared.messages.ToSwitch.TheVariants.{Answer, Avoid, Flood, Invalidate, Pod, Release, Tree}
+use Rattle.pl_node.specs.declared.messages.ToSwitch.TheVariants.{Answer, Avoid, Flood, Hello, Invalidate, Pod, Release, Tree}
 use Rattle.pl_switch_rule.specs.Forwarding.{Choice}
 use Rattle.pl_switch_rule.specs.Granting.{granted, held_here, is_granted}
 use Rattle.pl_switch_rule.specs.Levels.{with_pod}
 use Rattle.pl_switch_rule.specs.Messages.{answer_frame, flood_frame, hears_manager, hears_pod, takes_pod, with_part}
+use Rattle.pl_switch_rule.specs.Reporting.{hears_hello, report_for}
 use Rattle.pl_switch_rule.specs.SwitchRule.{IsChoice}
 use Rattle.pl_law_places.specs.Places.{IsPodNumber}
 use Rattle.pl_journal.proofs.Exports.{edge_of}
+
+-- words let nothing out
+words_still : (words : List ToManager) → AllByRecursion IsStill (map (λ word. Tell word) words)
+words_still [] = tt
+words_still (word ∷ words) = (tt, words_still words)
 
 module _ (plan : Plan) (f : ControlPlane) (s : ℕ) (is : IsPlan plan) (old : ArePlaced plan f) (there : s < switch_count plan.k) where
   pod_view : (n : ℕ) → (f.view s).place.level ≡ Some 0 → (f.view s).place.position ≡ Some 0 → (f.view s).place.pod ≡ None → n < 65535 →
@@ -72,6 +81,12 @@ module _ (plan : Plan) (f : ControlPlane) (s : ℕ) (is : IsPlan plan) (old : Ar
       (still_step (f.view s) (record (f.view s) { avoid = list }) []
       (record { id = refl; k = refl; place = refl; ports = refl; attempt = refl; proposed = refl; granted = refl; holds = refl })
       (record { grants = sound.homes.grants; remembered = sound.homes.remembered; members = sound.homes.members }) tt)
+  order_turn choose (Hello epoch) chooses fine =
+      let sound = old.sound s there in
+      silent_turn plan f s is old (f.view s) (hears_hello (f.view s) epoch) (view_itself plan f s is old there)
+      (still_step (f.view s) (record (f.view s) { epoch = epoch; avoid = []; parts = [] }) (hears_hello (f.view s) epoch).acts
+      (record { id = refl; k = refl; place = refl; ports = refl; attempt = refl; proposed = refl; granted = refl; holds = refl })
+      (record { grants = sound.homes.grants; remembered = sound.homes.remembered; members = sound.homes.members }) (words_still (report_for epoch (f.view s))))
   order_turn choose (Tree group part) chooses fine =
       let sound = old.sound s there in
       silent_turn plan f s is old (f.view s) (rests (record (f.view s) { parts = with_part group part (f.view s).parts })) (view_itself plan f s is old there)

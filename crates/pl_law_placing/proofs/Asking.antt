@@ -233,6 +233,7 @@ module _ (f : ControlPlane) (is : IsPlan f.plan) where
     order_owes m s (say.Avoid list) same first turns = turn_owes m s (Says (say.Avoid list)) same turns (order_left m s (say.Avoid list) refl first)
     order_owes m s (say.Invalidate a b c d) same first turns = turn_owes m s (Says (say.Invalidate a b c d)) same turns (order_left m s (say.Invalidate a b c d) refl first)
     order_owes m s (say.Release a) same first turns = turn_owes m s (Says (say.Release a)) same turns (order_left m s (say.Release a) refl first)
+    order_owes m s (say.Hello epoch) same first turns = turn_owes m s (Says (say.Hello epoch)) same turns (order_left m s (say.Hello epoch) refl first)
     order_owes m s (say.Tree group part) same first turns = turn_owes m s (Says (say.Tree group part)) same turns (order_left m s (say.Tree group part) refl first)
 
     order_turn : (m : ControlPlane) (s : ℕ) (says : ToSwitch) → IsOrderTaken f s says m → SwitchTurns Loose m s (Says says) g → HaveAsked g
@@ -257,6 +258,9 @@ module _ (f : ControlPlane) (is : IsPlan f.plan) where
     report_heard s id (tell.Link u usable) before left named first = report_left s (tell.Link u usable) left _ refl first
     report_heard s id (tell.Learned a b c) before left named first = report_left s (tell.Learned a b c) left _ refl first
     report_heard s id (tell.Aged a b) before left named first = report_left s (tell.Aged a b) left _ refl first
+    report_heard s id (tell.Begin epoch) before left named first = report_left s (tell.Begin epoch) left _ refl first
+    report_heard s id (tell.End epoch) before left named first = report_left s (tell.End epoch) left _ refl first
+    report_heard s id (tell.Trapped trapped toward numbered) before left named first = report_left s (tell.Trapped trapped toward numbered) left _ refl first
     report_heard s id (tell.Query a b c) before left named first = report_left s (tell.Query a b c) left _ refl first
     report_heard s id (tell.Members group any) before left named first = report_left s (tell.Members group any) left _ refl first
 

@@ -96,6 +96,9 @@ module _ (f g : ControlPlane) (plan : g.plan ≡ f.plan) (later : (s : ℕ) → 
       asks (tell.Link u usable) front = heard_later
       asks (tell.Learned a b c) front = heard_later
       asks (tell.Aged a b) front = heard_later
+      asks (tell.Begin epoch) front = heard_later
+      asks (tell.End epoch) front = heard_later
+      asks (tell.Trapped trapped toward numbered) front = heard_later
       asks (tell.Query a b c) front = heard_later
       asks (tell.Members group any) front = heard_later
 

@@ -3,7 +3,7 @@ use Rattle.std.proofs.Common.{◌≡◌, ℕ, ◌+◌, ◌%◌, ◌==◌, ◌||�
 use Rattle.pl_layouts.specs.declared.control.Vote.{Vote as Answer}
 use Rattle.pl_layouts.specs.Votes.{counts, gives_way}
 use Rattle.pl_node.specs.declared.messages.ToSwitch.{ToSwitch}
-use Rattle.pl_node.specs.declared.messages.ToSwitch.TheVariants.{Answer as SayAnswer, Avoid, Flood, Invalidate, Pod, Tree, Release}
+use Rattle.pl_node.specs.declared.messages.ToSwitch.TheVariants.{Answer as SayAnswer, Avoid, Flood, Hello, Invalidate, Pod, Tree, Release}
 use Rattle.pl_node.specs.declared.neighbour.Neighbour.{Neighbour}
 use Rattle.pl_node.specs.PortRecords.{is_open_to_hosts, port_of}
 use Rattle.pl_node.specs.SwitchViews.{SwitchView}
@@ -26,6 +26,7 @@ ports_manager choose v (Pod n) =
     cond_both (takes_pod v n) (changes_to v (with_pod v (Some n))) (rests v) (λ (step : SwitchStep). step.view.ports ≡ v.ports)
     (λ takes. ports_changes v (with_pod v (Some n))) (λ other. refl)
 ports_manager choose v (Avoid list) = refl
+ports_manager choose v (Hello epoch) = refl
 ports_manager choose v (Tree group part) = refl
 ports_manager choose v (SayAnswer asker asker_ip ip pmac) =
     ap (λ (w : SwitchView). w.ports) (answers_stay choose v (is_granted v asker) (answer_frame asker asker_ip ip pmac))

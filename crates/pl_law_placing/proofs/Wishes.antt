@@ -6,7 +6,7 @@ use Rattle.pl_layouts.specs.declared.place.Place.{Place}
 use Rattle.pl_node.specs.declared.acts.Act.{Act}
 use Rattle.pl_node.specs.declared.acts.Act.TheVariants.{Tell}
 use Rattle.pl_node.specs.declared.messages.ToManager.{ToManager}
-use Rattle.pl_node.specs.declared.messages.ToManager.TheVariants.{Aged, Learned, Link, Members, PodWanted, Query, Place as TellPlace}
+use Rattle.pl_node.specs.declared.messages.ToManager.TheVariants.{Aged, Begin, End, Learned, Link, Members, PodWanted, Query, Trapped, Place as TellPlace}
 use Rattle.pl_node.specs.SwitchInputs.{SwitchInput}
 use Rattle.pl_node.specs.SwitchViews.{SwitchView}
 use Rattle.pl_steps.specs.Steps.{SwitchStep}
@@ -34,6 +34,7 @@ hosts_ask place = record {
   made = λ frame. tt;
   aged = λ address number. tt;
   freed = λ address. tt;
+  reported = record { begun = λ epoch. tt; ended = λ epoch. tt; trapped = λ old new number. tt };
 }
 
 change_asks : (place : Place) → ChangeActs place (MayAsk place)
@@ -53,6 +54,9 @@ asks_at_first place (TellPlace told ∷ words) all wish = asks_at_first place wo
 asks_at_first place (Link neighbour usable ∷ words) all wish = asks_at_first place words all.1 wish
 asks_at_first place (Learned pmac amac ip ∷ words) all wish = asks_at_first place words all.1 wish
 asks_at_first place (Aged pmac number ∷ words) all wish = asks_at_first place words all.1 wish
+asks_at_first place (Begin epoch ∷ words) all wish = asks_at_first place words all.1 wish
+asks_at_first place (End epoch ∷ words) all wish = asks_at_first place words all.1 wish
+asks_at_first place (Trapped trapped toward numbered ∷ words) all wish = asks_at_first place words all.1 wish
 asks_at_first place (Query asker asker_ip ip ∷ words) all wish = asks_at_first place words all.1 wish
 asks_at_first place (Members group any ∷ words) all wish = asks_at_first place words all.1 wish
 

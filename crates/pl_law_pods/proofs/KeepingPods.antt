@@ -171,6 +171,7 @@ module _ (f g : ControlPlane) (is : IsPlan f.plan) (placed : ArePlaced f.plan f)
       by (say.Flood a b c) first turns = others (say.Flood a b c) (λ pod same. absurd (cc same)) turns
       by (say.Invalidate a b c d) first turns = others (say.Invalidate a b c d) (λ pod same. absurd (cc same)) turns
       by (say.Release a) first turns = others (say.Release a) (λ pod same. absurd (cc same)) turns
+      by (say.Hello epoch) first turns = others (say.Hello epoch) (λ pod same. absurd (cc same)) turns
 
 -- the manager hears a switch
 managed_given : (f m g : ControlPlane) (s : ℕ) (id : SwitchId) (told : ToManager) → IsPlan f.plan → ArePodsGiven f → slice_get f.plan.ids s ≡ Some id → IsReportTaken f s told m →

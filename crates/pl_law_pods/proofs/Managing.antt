@@ -56,6 +56,9 @@ due_reply before s tell.PodWanted = (some_is (pod_given (with_asker before.told 
 due_reply before s (tell.Place place) = tt
 due_reply before s (tell.Link u usable) = tt
 due_reply before s (tell.Members group any) = tt
+due_reply before s (tell.Begin epoch) = tt
+due_reply before s (tell.End epoch) = tt
+due_reply before s (tell.Trapped trapped toward numbered) = tt
 due_reply before s (tell.Query asker asker_ip ip) = (due_answer before.pods s asker asker_ip ip (lookup before.learnt ip), tt)
 due_reply before s (tell.Aged pmac number) =
     all_weaker (IsReleaseOf before.learnt) (IsDue before.pods) (λ act release. subst (IsDue before.pods) (sym release.is) tt) (hears_aged before.learnt pmac number).acts
@@ -88,6 +91,9 @@ given_then before s t tell.PodWanted n is = number_stays before.told before.pods
 given_then before s t (tell.Place place) n is = is
 given_then before s t (tell.Link u usable) n is = is
 given_then before s t (tell.Members group any) n is = is
+given_then before s t (tell.Begin epoch) n is = is
+given_then before s t (tell.End epoch) n is = is
+given_then before s t (tell.Trapped trapped toward numbered) n is = is
 given_then before s t (tell.Query asker asker_ip ip) n is = is
 given_then before s t (tell.Learned pmac amac ip) n is = is
 given_then before s t (tell.Aged pmac number) n is = is
@@ -100,6 +106,7 @@ order_then before s t told (say.Flood a b c) is = tt
 order_then before s t told (say.Avoid list) is = tt
 order_then before s t told (say.Invalidate a b c d) is = tt
 order_then before s t told (say.Release a) is = tt
+order_then before s t told (say.Hello epoch) is = tt
 order_then before s t told (say.Tree group part) is = tt
 
 -- The switch to which an act speaks.

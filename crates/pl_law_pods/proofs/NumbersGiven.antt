@@ -121,6 +121,9 @@ module _ (plan : Plan) (manager : ManagerView) (is : IsPlan plan) (gives : Gives
   }
   gives_then s (tell.Link u usable) here = record { ordered = stays_in_order manager s (tell.Link u usable) gives.ordered; told = gives.told; asked = gives.asked; apart = gives.apart; small = gives.small }
   gives_then s (tell.Members group any) here = record { ordered = stays_in_order manager s (tell.Members group any) gives.ordered; told = gives.told; asked = gives.asked; apart = gives.apart; small = gives.small }
+  gives_then s (tell.Begin epoch) here = record { ordered = stays_in_order manager s (tell.Begin epoch) gives.ordered; told = gives.told; asked = gives.asked; apart = gives.apart; small = gives.small }
+  gives_then s (tell.End epoch) here = record { ordered = stays_in_order manager s (tell.End epoch) gives.ordered; told = gives.told; asked = gives.asked; apart = gives.apart; small = gives.small }
+  gives_then s (tell.Trapped trapped toward numbered) here = record { ordered = stays_in_order manager s (tell.Trapped trapped toward numbered) gives.ordered; told = gives.told; asked = gives.asked; apart = gives.apart; small = gives.small }
   gives_then s (tell.Query asker asker_ip ip) here = record { ordered = stays_in_order manager s (tell.Query asker asker_ip ip) gives.ordered; told = gives.told; asked = gives.asked; apart = gives.apart; small = gives.small }
   gives_then s (tell.Learned pmac amac ip) here = record { ordered = stays_in_order manager s (tell.Learned pmac amac ip) gives.ordered; told = gives.told; asked = gives.asked; apart = gives.apart; small = gives.small }
   gives_then s (tell.Aged pmac number) here = record { ordered = stays_in_order manager s (tell.Aged pmac number) gives.ordered; told = gives.told; asked = gives.asked; apart = gives.apart; small = gives.small }

@@ -41,6 +41,7 @@ numbers_fit f is given s = each (f.orders s) (given.said s)
     fits (say.Avoid list) here = tt
     fits (say.Invalidate a b c d) here = tt
     fits (say.Release a) here = tt
+    fits (say.Hello epoch) here = tt
     fits (say.Tree group part) here = tt
 
     each : (orders : List ToSwitch) → AllByRecursion (IsPodGiven f.manager.pods (id_of f.plan s)) orders → AllByRecursion IsPodNumber orders

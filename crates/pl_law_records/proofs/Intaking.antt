@@ -3,7 +3,7 @@ use Rattle.std.proofs.Common.{◌≡◌, ℕ, ◌||◌, nat_lt, Bool, true, fals
 use Rattle.pl_pmac.specs.declared.pmac.Pmac.{Pmac}
 use Rattle.pl_node.specs.declared.acts.Act.TheVariants.{Drop}
 use Rattle.pl_node.specs.declared.messages.ToSwitch.{ToSwitch}
-use Rattle.pl_node.specs.declared.messages.ToSwitch.TheVariants.{Answer, Avoid, Flood, Invalidate, Pod, Release, Tree}
+use Rattle.pl_node.specs.declared.messages.ToSwitch.TheVariants.{Answer, Avoid, Flood, Hello, Invalidate, Pod, Release, Tree}
 use Rattle.pl_node.specs.AddressUses.{standing_trap}
 use Rattle.pl_node.specs.declared.switch_records.Grant.{Grant}
 use Rattle.pl_node.specs.declared.switch_records.Member.{Member}
@@ -34,6 +34,7 @@ use Rattle.pl_node.specs.declared.neighbour.Neighbour.{Neighbour}
 use Rattle.pl_node.specs.declared.neighbour.PortRecord.{PortRecord}
 use Rattle.pl_node.specs.PortRecords.{heard_id, id_at, is_usable, new_port}
 use Rattle.pl_law_records.proofs.Linking.{IsOnlyAt, LinksAreTold, either_told, still_told, then_told, unheard}
+use Rattle.pl_law_records.proofs.Reports.{report_says_links, report_says_members, report_says_no_other, report_says_place}
 use Rattle.pl_law_records.proofs.TellingLinks.{IsStill, does_still, either_still, groups_are_told, groups_no_link, groups_no_place, rests_still, step_still, then_still}
 use Rattle.pl_law_records.proofs.DataTellsNoPlace.{changes_right, floods_still, frees_still, learns_source_still, makes_still, packet_still, probes_still, sends_in_still, switch_frame_still}
 use Rattle.pl_switch_rule.proofs.Exports.{taken_in}
@@ -117,6 +118,7 @@ invalidates_still v old trap (Some grant) =
 -- the parts of a switch once the manager said this
 abbrev pub parts_after : ToSwitch → List (ℕ × TreePart) → List (ℕ × TreePart)
 parts_after (Tree group part) parts = with_part group part parts
+parts_after (Hello epoch) parts = []
 parts_after says parts = parts
 
 -- what the manager says replaces a list or a part, or leaves both
@@ -136,6 +138,14 @@ pod_told v pod =
 pub manager_obeyed : (choose : Choice) (v : SwitchView) (says : ToSwitch) → IsObeying says v (hears_manager choose v says)
 manager_obeyed choose v (Avoid list) = record { place = refl; members = λ group. refl; links = λ u p at. refl; others = λ u nowhere before. refl; avoid = refl; parts = refl }
 manager_obeyed choose v (Tree group part) = record { place = refl; members = λ group. refl; links = λ u p at. refl; others = λ u nowhere before. refl; avoid = refl; parts = refl }
+manager_obeyed choose v (Hello epoch) = record {
+  place = report_says_place v epoch;
+  members = report_says_members v epoch;
+  links = λ u p at. report_says_links v epoch u p (record { within = at.within; only = at.only; named = at.named });
+  others = λ u nowhere before. report_says_no_other v epoch u nowhere before;
+  avoid = refl;
+  parts = refl;
+}
 manager_obeyed choose v (Pod pod) =
     let a = pod_told v pod in record { place = a.telling.place; members = a.telling.members; links = a.links; others = a.others; avoid = a.telling.avoid; parts = a.telling.parts }
 manager_obeyed choose v (Answer asker asker_ip ip pmac) =

@@ -28,6 +28,9 @@ no_place (tell.Link u usable) is = refl
 no_place tell.PodWanted is = refl
 no_place (tell.Learned a b c) is = refl
 no_place (tell.Aged a b) is = refl
+no_place (tell.Begin epoch) is = refl
+no_place (tell.End epoch) is = refl
+no_place (tell.Trapped trapped toward numbered) is = refl
 no_place (tell.Query a b c) is = refl
 no_place (tell.Members g any) is = refl
 
@@ -37,6 +40,9 @@ no_members group (tell.Link u usable) is = refl
 no_members group tell.PodWanted is = refl
 no_members group (tell.Learned a b c) is = refl
 no_members group (tell.Aged a b) is = refl
+no_members group (tell.Begin epoch) is = refl
+no_members group (tell.End epoch) is = refl
+no_members group (tell.Trapped trapped toward numbered) is = refl
 no_members group (tell.Query a b c) is = refl
 no_members group (tell.Members g any) is = absurd is
 
@@ -47,6 +53,7 @@ no_avoid (say.Flood a b c) is = refl
 no_avoid (say.Avoid list) is = absurd is
 no_avoid (say.Invalidate a b c d) is = refl
 no_avoid (say.Release a) is = refl
+no_avoid (say.Hello epoch) is = absurd is
 no_avoid (say.Tree group part) is = refl
 
 pub no_part : (group : ℕ) (w : ToSwitch) → IsNoOrder w → part_said group w ≡ None
@@ -56,6 +63,7 @@ no_part group (say.Flood a b c) is = refl
 no_part group (say.Avoid list) is = refl
 no_part group (say.Invalidate a b c d) is = refl
 no_part group (say.Release a) is = refl
+no_part group (say.Hello epoch) is = absurd is
 no_part group (say.Tree g part) is = absurd is
 
 pub silent_place : (ws : List ToManager) → AllByRecursion IsNoReport ws → AllByRecursion (λ w. place_said w ≡ None) ws
@@ -70,6 +78,9 @@ no_link u (tell.Link x usable) is = absurd is
 no_link u tell.PodWanted is = refl
 no_link u (tell.Learned a b c) is = refl
 no_link u (tell.Aged a b) is = refl
+no_link u (tell.Begin epoch) is = refl
+no_link u (tell.End epoch) is = refl
+no_link u (tell.Trapped trapped toward numbered) is = refl
 no_link u (tell.Query a b c) is = refl
 no_link u (tell.Members g any) is = refl
 

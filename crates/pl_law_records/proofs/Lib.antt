@@ -2,6 +2,7 @@ pub mod Last
 pub mod TellingLinks
 pub mod Linking
 pub mod DataTellsNoPlace
+pub mod Reports
 pub mod Intaking
 pub mod ToldInTurns
 pub mod Recording

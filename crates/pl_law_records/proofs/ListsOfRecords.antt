@@ -146,6 +146,9 @@ tellers_stay view s t (tell.Link u usable) h = elim (among_append t (map (λ p. 
 tellers_stay view s t tell.PodWanted h = h
 tellers_stay view s t (tell.Learned a b c) h = h
 tellers_stay view s t (tell.Aged a b) h = h
+tellers_stay view s t (tell.Begin epoch) h = h
+tellers_stay view s t (tell.End epoch) h = h
+tellers_stay view s t (tell.Trapped trapped toward numbered) h = h
 tellers_stay view s t (tell.Query a b c) h = h
 tellers_stay view s t (tell.Members g any) h = h
 
@@ -161,6 +164,9 @@ groups_stay view s group (tell.Link u usable) h = h
 groups_stay view s group tell.PodWanted h = h
 groups_stay view s group (tell.Learned a b c) h = h
 groups_stay view s group (tell.Aged a b) h = h
+groups_stay view s group (tell.Begin epoch) h = h
+groups_stay view s group (tell.End epoch) h = h
+groups_stay view s group (tell.Trapped trapped toward numbered) h = h
 groups_stay view s group (tell.Query a b c) h = h
 
 -- What is sent.

@@ -110,6 +110,7 @@ module _ (group : ℕ) where
   part_after (say.Flood a b c) parts rising = refl
   part_after (say.Invalidate a b c d) parts rising = refl
   part_after (say.Release a) parts rising = refl
+  part_after (say.Hello epoch) parts rising = refl
 
 keys_removed : (P : ℕ → Type 0) (g : ℕ) (es : List (ℕ × TreePart)) → AllByRecursion P (keys_of es) → AllByRecursion P (keys_of (remove_entry (λ h. h == g) es))
 keys_removed P g [] all = tt
@@ -129,6 +130,7 @@ rising_removed g (e ∷ es) rising = by (e.0 == g) (rising_removed g es rising.1
     by false rest = (keys_removed (λ b. nat_cmp e.0 b ≡ Less) g es rising.0, rest)
 
 rising_after : (says : ToSwitch) (parts : List (ℕ × TreePart)) → IsStrictlySortedBy nat_cmp (keys_of parts) → IsStrictlySortedBy nat_cmp (keys_of (parts_after says parts))
+unfolding IsStrictlySortedBy
 rising_after (say.Tree g (Some part)) parts rising = rising_put nat_cmp nat_cmp_total parts g part rising
 rising_after (say.Tree g None) parts rising = rising_removed g parts rising
 rising_after (say.Pod n) parts rising = rising
@@ -137,6 +139,7 @@ rising_after (say.Answer a b c d) parts rising = rising
 rising_after (say.Flood a b c) parts rising = rising
 rising_after (say.Invalidate a b c d) parts rising = rising
 rising_after (say.Release a) parts rising = rising
+rising_after (say.Hello epoch) parts rising = tt
 
 -- What one switch owes stays where what it holds, what waits for it and the manager stay.
 

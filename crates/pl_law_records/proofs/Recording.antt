@@ -41,6 +41,9 @@ module _ (view : ManagerView) (s t : SwitchId) where
   place_heard tell.PodWanted = quiet (same_switch s t) (place_of view.told t)
   place_heard (tell.Learned a b c) = quiet (same_switch s t) (place_of view.told t)
   place_heard (tell.Aged a b) = quiet (same_switch s t) (place_of view.told t)
+  place_heard (tell.Begin epoch) = quiet (same_switch s t) (place_of view.told t)
+  place_heard (tell.End epoch) = quiet (same_switch s t) (place_of view.told t)
+  place_heard (tell.Trapped trapped toward numbered) = quiet (same_switch s t) (place_of view.told t)
   place_heard (tell.Query a b c) = quiet (same_switch s t) (place_of view.told t)
   place_heard (tell.Members g any) = quiet (same_switch s t) (place_of view.told t)
 
@@ -59,6 +62,9 @@ module _ (view : ManagerView) (s t : SwitchId) where
   members_heard group tell.PodWanted = quiet (same_switch s t) (has_told_members view.members t group)
   members_heard group (tell.Learned a b c) = quiet (same_switch s t) (has_told_members view.members t group)
   members_heard group (tell.Aged a b) = quiet (same_switch s t) (has_told_members view.members t group)
+  members_heard group (tell.Begin epoch) = quiet (same_switch s t) (has_told_members view.members t group)
+  members_heard group (tell.End epoch) = quiet (same_switch s t) (has_told_members view.members t group)
+  members_heard group (tell.Trapped trapped toward numbered) = quiet (same_switch s t) (has_told_members view.members t group)
   members_heard group (tell.Query a b c) = quiet (same_switch s t) (has_told_members view.members t group)
 
 module _ (view : ManagerView) (s t u : SwitchId) where
@@ -76,6 +82,9 @@ module _ (view : ManagerView) (s t u : SwitchId) where
   link_heard tell.PodWanted = quiet (same_switch s t) (is_told_usable view.told t u)
   link_heard (tell.Learned a b c) = quiet (same_switch s t) (is_told_usable view.told t u)
   link_heard (tell.Aged a b) = quiet (same_switch s t) (is_told_usable view.told t u)
+  link_heard (tell.Begin epoch) = quiet (same_switch s t) (is_told_usable view.told t u)
+  link_heard (tell.End epoch) = quiet (same_switch s t) (is_told_usable view.told t u)
+  link_heard (tell.Trapped trapped toward numbered) = quiet (same_switch s t) (is_told_usable view.told t u)
   link_heard (tell.Query a b c) = quiet (same_switch s t) (is_told_usable view.told t u)
   link_heard (tell.Members g any) = quiet (same_switch s t) (is_told_usable view.told t u)
 

@@ -130,6 +130,9 @@ reply_orders_nothing before after s tell.PodWanted = (tt, tt)
 reply_orders_nothing before after s (tell.Place place) = tt
 reply_orders_nothing before after s (tell.Link u usable) = tt
 reply_orders_nothing before after s (tell.Members group any) = tt
+reply_orders_nothing before after s (tell.Begin epoch) = tt
+reply_orders_nothing before after s (tell.End epoch) = tt
+reply_orders_nothing before after s (tell.Trapped trapped toward numbered) = tt
 reply_orders_nothing before after s (tell.Query asker asker_ip ip) = (answer_orders_nothing asker asker_ip ip (lookup after.learnt ip), tt)
 reply_orders_nothing before after s (tell.Learned pmac amac ip) = by (list_any (λ r. same_pmac r.pmac pmac) (registry before.learnt))
   where

@@ -12,14 +12,16 @@ abbrev pub last_said : {W X : Type 0} → (W → Option X) → X → List W → 
 last_said said before [] = before
 last_said said before (w ∷ words) = last_said said (unwrap_or (said w) before) words
 
--- what a word of the manager says of the avoid list of a switch
+-- what a word of the manager says of the avoid list of a switch; one that begins anew says none
 abbrev pub avoid_said : ToSwitch → Option (List (SwitchId × ℕ × ℕ))
 avoid_said (say.Avoid list) = Some list
+avoid_said (say.Hello epoch) = Some []
 avoid_said says = None
 
--- of its part of the tree of this group
+-- of its part of the tree of this group; one that begins anew says that it has none
 abbrev pub part_said : ℕ → ToSwitch → Option (Option TreePart)
 part_said group (say.Tree g part) = if g == group then Some part else None
+part_said group (say.Hello epoch) = Some None
 part_said group says = None
 
 -- Words that say nothing of what the manager records, and nothing of lists and trees.
@@ -32,5 +34,6 @@ IsNoReport told = Unit {0}
 
 abbrev pub IsNoOrder : ToSwitch → Type 0
 IsNoOrder (say.Avoid list) = ⊥
+IsNoOrder (say.Hello epoch) = ⊥
 IsNoOrder (say.Tree group part) = ⊥
 IsNoOrder says = Unit {0}

@@ -1,5 +1,5 @@
 -- Which hosts a switch grants addresses to: the sources of the frames that come, and those that it remembers.
-use Rattle.std.proofs.Common.{◌≡◌, ◌||◌, ℕ, nat_lt, zero, suc, Bool, true, false, if◌then◌else◌, get_or, set, List, [], ◌∷◌, Option, Some, None, Result, Ok, Err, refl, sym, ap, subst}
+use Rattle.std.proofs.Common.{◌≡◌, ◌||◌, ℕ, nat_lt, zero, suc, Bool, true, false, if◌then◌else◌, get_or, set, List, [], ◌∷◌, map, Option, Some, None, Result, Ok, Err, refl, sym, ap, subst}
 use Rattle.std.specs.List.{AllByRecursion}
 use Rattle.std.proofs.lemmas.Bool.{cond_both}
 use Rattle.pl_lemmas.proofs.Exports.{all_append}
@@ -18,6 +18,7 @@ use Rattle.pl_node.specs.declared.acts.Act.{Act}
 use Rattle.pl_node.specs.declared.acts.Act.TheVariants as act
 use Rattle.pl_node.specs.declared.address_use.AddressUse.{AddressUse}
 use Rattle.pl_node.specs.declared.address_use.AddressUse.TheVariants.{Free, InUse, Resting, Trapped}
+use Rattle.pl_node.specs.declared.messages.ToManager.{ToManager}
 use Rattle.pl_node.specs.declared.messages.ToManager.TheVariants as tell
 use Rattle.pl_node.specs.declared.messages.ToSwitch.{ToSwitch}
 use Rattle.pl_node.specs.declared.messages.ToSwitch.TheVariants as say
@@ -36,6 +37,7 @@ use Rattle.pl_switch_rule.specs.Forwarding.{Choice}
 use Rattle.pl_switch_rule.specs.Granting.{address_at_port, forgets, freed_at, grant_number, granted, grants_at, grants_next, grants_or_learns, grants_remembered, grants_source, held_here, in_use, is_granted, learns_ip, learns_source, next_vmid, or_else, remembered_at, remembered_ip, remembers, sender_ip, uses}
 use Rattle.pl_switch_rule.specs.Intake.{comes_from_host, takes_in_or_spent}
 use Rattle.pl_switch_rule.specs.Levels.{after_message, becomes_edge, changes_to, finds_host, has_become_placed, settles_in, with_pod}
+use Rattle.pl_switch_rule.specs.Reporting.{report_for}
 use Rattle.pl_switch_rule.specs.Messages.{answer_frame, flood_frame, floods, forgets_members, frees, frees_at, invalidates, probes, sets_trap, sets_trap_over, takes_pod, with_trap}
 use Rattle.pl_switch_rule.specs.Positions.{after_vote}
 use Rattle.pl_switch_rule.specs.SwitchRule.{comes_from_switch, control_comes, data_comes, hears_control, switch_step}
@@ -228,11 +230,17 @@ module _ (P : ℕ → Mac → Type 0) where
   fits_frees v x None = fits_rests v
   fits_frees v x (Some g) = fits_frees_at v x g g.held
 
+  -- words grant nothing
+  words_grant : (words : List ToManager) → AllByRecursion IsGrantFor (map (λ word. act.Tell word) words)
+  words_grant [] = tt
+  words_grant (word ∷ words) = (tt, words_grant words)
+
   pub fits_order : (choose : Choice) (v : SwitchView) (says : ToSwitch) → Fits v (switch_step choose v (Says says))
   fits_order choose v (say.Pod pod) =
       cond_both (takes_pod v pod) (changes_to v (with_pod v (Some pod))) (rests v) (Fits v)
       (λ takes. fits_changes v (with_pod v (Some pod)) (pod_placing v pod takes)) (λ h. fits_rests v)
   fits_order choose v (say.Avoid list) = record { holds = λ r. r; grants = λ r. tt }
+  fits_order choose v (say.Hello epoch) = record { holds = λ r. r; grants = λ r. words_grant (report_for epoch v) }
   fits_order choose v (say.Tree group part) = record { holds = λ r. r; grants = λ r. tt }
   fits_order choose v (say.Answer asker asker_ip ip pmac) =
       fits_either v (is_granted v asker) (makes choose (answer_frame asker asker_ip ip pmac) v) (rests v)

@@ -145,6 +145,7 @@ order_place choose v (say.Pod pod) settled =
     cond_both (takes_pod v pod) (changes_to v (with_pod v (Some pod))) (rests v) (λ (s : SwitchStep). s.view.place ≡ v.place)
     (λ takes. changed_place v (with_pod v (Some pod)) (pod_placing v pod takes) settled) (λ h. refl)
 order_place choose v (say.Avoid list) settled = refl
+order_place choose v (say.Hello epoch) settled = refl
 order_place choose v (say.Tree group part) settled = refl
 order_place choose v (say.Answer asker asker_ip ip pmac) settled =
     cond_both (is_granted v asker) (makes choose (answer_frame asker asker_ip ip pmac) v) (rests v) (λ (s : SwitchStep). s.view.place ≡ v.place)
@@ -494,6 +495,7 @@ module _ (me : Me) (port : ℕ) where
   order_known choose ticks v ready (say.Pod pod) knows =
       inl (cond_both (takes_pod v pod) (changes_to v (with_pod v (Some pod))) (rests v) (λ (s : SwitchStep). KnowsAt me ticks s.view port)
       (λ takes. changing v ready (with_pod v (Some pod)) (pod_placing v pod takes) ticks knows) (λ h. knows))
+  order_known choose ticks v ready (say.Hello epoch) knows = inl knows
   order_known choose ticks v ready (say.Avoid list) knows =
       inl (aside_still v (hears_manager choose v (say.Avoid list)) (record { place = refl; k = refl; grants = refl; freed = refl; remembered = refl; silent = tt }) ticks knows)
   order_known choose ticks v ready (say.Tree group part) knows =

@@ -131,6 +131,7 @@ message_of_rule v (says.Flood asker asker_ip ip) =
     either (is_granted v asker) (if_nowhere (group_ports_up v flood) NoNextHop) None (nowhere (group_ports_up v flood) NoNextHop refl) tt
 message_of_rule v (says.Invalidate old new number ip) = tt
 message_of_rule v (says.Release address) = tt
+message_of_rule v (says.Hello epoch) = tt
 
 came_of_rule : (v : SwitchView) (input : SwitchInput) → IsOfRule (cause_of v input)
 came_of_rule v (Comes port frame) =

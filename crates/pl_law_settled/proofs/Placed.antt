@@ -34,6 +34,9 @@ no_wish (tell.Link neighbour usable) is = refl
 no_wish tell.PodWanted is = absurd is
 no_wish (tell.Learned pmac amac ip) is = refl
 no_wish (tell.Aged pmac number) is = refl
+no_wish (tell.Begin epoch) is = refl
+no_wish (tell.End epoch) is = refl
+no_wish (tell.Trapped trapped toward numbered) is = refl
 no_wish (tell.Query asker asker_ip ip) is = refl
 no_wish (tell.Members group any) is = refl
 
@@ -44,6 +47,7 @@ no_number (say.Flood asker asker_ip ip) is = refl
 no_number (say.Avoid list) is = refl
 no_number (say.Invalidate old new number ip) is = refl
 no_number (say.Release address) is = refl
+no_number (say.Hello epoch) is = absurd is
 no_number (say.Tree group part) is = refl
 
 module _ (w : WorldView) (placing : ArePlacing w) where

@@ -18,6 +18,7 @@ reply_orders_nothing (say.Flood asker asker_ip ip) is = tt
 reply_orders_nothing (say.Avoid list) is = absurd is
 reply_orders_nothing (say.Invalidate old new number ip) is = absurd is
 reply_orders_nothing (say.Release address) is = absurd is
+reply_orders_nothing (say.Hello epoch) is = absurd is
 reply_orders_nothing (say.Tree group part) is = absurd is
 
 pub rests : (w : WorldView) → HasSettledQueues w → NoReportWaits (control_plane w)

@@ -190,5 +190,8 @@ module _ (w : WorldView) (kept : ControlInvariant w) (entered : IsEnteredAll w) 
       by (tell.Place place) v after ns found word l = subst (OneWell w.plan (reverse w.journal)) (sym l.none) tt
       by (tell.Link u usable) v after ns found word l = subst (OneWell w.plan (reverse w.journal)) (sym l.none) tt
       by tell.PodWanted v after ns found word l = subst (OneWell w.plan (reverse w.journal)) (sym l.none) tt
+      by (tell.Begin epoch) v after ns found word l = subst (OneWell w.plan (reverse w.journal)) (sym l.none) tt
+      by (tell.End epoch) v after ns found word l = subst (OneWell w.plan (reverse w.journal)) (sym l.none) tt
+      by (tell.Trapped trapped toward numbered) v after ns found word l = subst (OneWell w.plan (reverse w.journal)) (sym l.none) tt
       by (tell.Query asker asker_ip ip) v after ns found word l = subst (OneWell w.plan (reverse w.journal)) (sym l.none) tt
       by (tell.Members group any) v after ns found word l = subst (OneWell w.plan (reverse w.journal)) (sym l.none) tt

@@ -6,7 +6,7 @@ use Rattle.pl_frame.specs.declared.address.SwitchId.{SwitchId}
 use Rattle.pl_node.specs.declared.acts.Act.{Act}
 use Rattle.pl_node.specs.declared.acts.Act.TheVariants.{Control, Drop}
 use Rattle.pl_node.specs.declared.messages.ToSwitch.{ToSwitch}
-use Rattle.pl_node.specs.declared.messages.ToSwitch.TheVariants.{Answer, Avoid, Flood, Invalidate, Pod, Release, Tree}
+use Rattle.pl_node.specs.declared.messages.ToSwitch.TheVariants.{Answer, Avoid, Flood, Hello, Invalidate, Pod, Release, Tree}
 use Rattle.pl_node.specs.PortRecords.{is_open_to_hosts, port_of, with_port}
 use Rattle.pl_node.specs.SwitchViews.{SwitchView}
 use Rattle.pl_journal.specs.declared.cause.Cause.TheVariants.{NotPlaced}
@@ -67,6 +67,7 @@ unsaid_hosts = record {
   made = λ frame. tt;
   aged = λ address number. tt;
   freed = λ address. tt;
+  reported = record { begun = λ epoch. tt; ended = λ epoch. tt; trapped = λ old new number. tt };
 }
 
 unsaid_change : (place : Place) → ChangeActs place IsUnsaid
@@ -150,6 +151,7 @@ manager_keeps : (choose : Choice) (v : SwitchView) (says : ToSwitch) → ((pod :
 manager_keeps choose v (Pod pod) other = absurd (other pod refl)
 manager_keeps choose v (Avoid list) other = record { same = refl; holds = refl; stays_placed = λ level. refl }
 manager_keeps choose v (Tree group part) other = record { same = refl; holds = refl; stays_placed = λ level. refl }
+manager_keeps choose v (Hello epoch) other = record { same = refl; holds = refl; stays_placed = λ level. refl }
 manager_keeps choose v (Answer asker asker_ip ip pmac) other =
     stays_keep v _ (answers_stay choose v (is_granted v asker) (answer_frame asker asker_ip ip pmac))
 manager_keeps choose v (Flood asker asker_ip ip) other = stays_keep v _ (floods_stay v (is_granted v asker) (flood_frame asker asker_ip ip))
@@ -177,4 +179,5 @@ manager_leaves_votes choose v (Tree group part) = votes_left v _ (aside_manager 
 manager_leaves_votes choose v (Answer asker asker_ip ip pmac) = votes_left v _ (aside_manager choose v (Answer asker asker_ip ip pmac) (λ pod is. absurd (cc is)))
 manager_leaves_votes choose v (Flood asker asker_ip ip) = votes_left v _ (aside_manager choose v (Flood asker asker_ip ip) (λ pod is. absurd (cc is)))
 manager_leaves_votes choose v (Invalidate old new number ip) = votes_left v _ (aside_manager choose v (Invalidate old new number ip) (λ pod is. absurd (cc is)))
+manager_leaves_votes choose v (Hello epoch) = votes_left v _ (aside_manager choose v (Hello epoch) (λ pod is. absurd (cc is)))
 manager_leaves_votes choose v (Release address) = votes_left v _ (aside_manager choose v (Release address) (λ pod is. absurd (cc is)))

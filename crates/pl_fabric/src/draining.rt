@@ -9,6 +9,7 @@ use crate::settling::Settling;
 use pl_frame::Memory;
 use pl_node::{HostLogic, ManagerLogic, SwitchLogic};
 use pl_schedule::World;
+use pl_stage::{Stage, Watcher};
 use pl_world::{QueueName, StepError};
 use std::alloc::AllocError;
 
@@ -68,8 +69,8 @@ fn answer<S: SwitchLogic, M: ManagerLogic, H: HostLogic>(
 /// Makes the least number of sweeps, at most as many as asked, after which no queue has items. Answers
 /// whether none has at the end. Where a step is refused the steps before it stand. After want of memory the
 /// world is not used again.
-pub fn drain<S: SwitchLogic, M: ManagerLogic, H: HostLogic>(
-    world: &mut World<S, M, H>,
+pub fn drain<S: SwitchLogic, M: ManagerLogic, H: HostLogic, W: Watcher<S, M, H>>(
+    world: &mut Stage<S, M, H, W>,
     sweeps: u32,
 ) -> Result<Settling, StepError>
     requires orderly { CanStep world.old }
@@ -79,10 +80,10 @@ pub fn drain<S: SwitchLogic, M: ManagerLogic, H: HostLogic>(
     ensures plan { EndsAs result (λ _. world.new.plan ≡ world.old.plan) }
 {
     for used in 0..sweeps {
-        if drained(world) {
+        if drained(world.world()) {
             return Ok(Settling::Settled(used));
         }
         sweep(world)?;
     }
-    answer(world, sweeps)
+    answer(world.world(), sweeps)
 }

@@ -7,6 +7,7 @@ use crate::making::make;
 use pl_draws::{next_number, upper_half};
 use pl_node::{HostLogic, ManagerLogic, SwitchLogic};
 use pl_schedule::World;
+use pl_stage::{Stage, Watcher};
 use pl_wiring::SwitchNo;
 use pl_world::{Event, StepError};
 
@@ -26,8 +27,8 @@ fn drawn<S: SwitchLogic, M: ManagerLogic, H: HostLogic>(world: &World<S, M, H>, 
 /// Makes so many steps, each drawn by the next number behind `number`: the delivery of the head of one of
 /// the queues with items, or the tick of one of the switches. Where a step is refused the steps before it
 /// stand. After want of memory the world is not used again.
-pub fn random<S: SwitchLogic, M: ManagerLogic, H: HostLogic>(
-    world: &mut World<S, M, H>,
+pub fn random<S: SwitchLogic, M: ManagerLogic, H: HostLogic, W: Watcher<S, M, H>>(
+    world: &mut Stage<S, M, H, W>,
     number: u64,
     steps: u32,
 ) -> Result<(), StepError>
@@ -39,7 +40,7 @@ pub fn random<S: SwitchLogic, M: ManagerLogic, H: HostLogic>(
     let mut x = number;
     for _ in 0..steps {
         x = next_number(x);
-        let event = drawn(world, x);
+        let event = drawn(world.world(), x);
         make(world, &event)?;
     }
     Ok(())

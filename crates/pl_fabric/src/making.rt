@@ -5,13 +5,13 @@ ghost use Rattle.pl_fabric.specs.Executions.{EndsAs, Makes, MakesAll};
 ghost use Rattle.pl_fabric.specs.Rounds.{TicksAll, Visits};
 
 use pl_node::{HostLogic, ManagerLogic, SwitchLogic};
-use pl_schedule::World;
+use pl_stage::{Stage, Watcher};
 use pl_wiring::SwitchNo;
 use pl_world::{Event, QueueName, StepError};
 
 /// One step. Where it is refused, nothing changes. After want of memory the world is not used again.
-pub fn make<S: SwitchLogic, M: ManagerLogic, H: HostLogic>(
-    world: &mut World<S, M, H>,
+pub fn make<S: SwitchLogic, M: ManagerLogic, H: HostLogic, W: Watcher<S, M, H>>(
+    world: &mut Stage<S, M, H, W>,
     event: &Event,
 ) -> Result<(), StepError>
     requires orderly { CanStep world.old }
@@ -23,8 +23,8 @@ pub fn make<S: SwitchLogic, M: ManagerLogic, H: HostLogic>(
 }
 
 // So many items are delivered from a queue.
-fn deliver<S: SwitchLogic, M: ManagerLogic, H: HostLogic>(
-    world: &mut World<S, M, H>,
+fn deliver<S: SwitchLogic, M: ManagerLogic, H: HostLogic, W: Watcher<S, M, H>>(
+    world: &mut Stage<S, M, H, W>,
     name: QueueName,
     many: usize,
 ) -> Result<(), StepError>
@@ -40,8 +40,8 @@ fn deliver<S: SwitchLogic, M: ManagerLogic, H: HostLogic>(
 }
 
 // As many items of a queue are delivered as it holds.
-pub(crate) fn visit<S: SwitchLogic, M: ManagerLogic, H: HostLogic>(
-    world: &mut World<S, M, H>,
+pub(crate) fn visit<S: SwitchLogic, M: ManagerLogic, H: HostLogic, W: Watcher<S, M, H>>(
+    world: &mut Stage<S, M, H, W>,
     name: QueueName,
 ) -> Result<(), StepError>
     requires orderly { CanStep world.old }
@@ -55,8 +55,8 @@ pub(crate) fn visit<S: SwitchLogic, M: ManagerLogic, H: HostLogic>(
 
 /// A tick of each switch, in label order. Where a step is refused the steps before it stand. After want of
 /// memory the world is not used again.
-pub fn tick_all<S: SwitchLogic, M: ManagerLogic, H: HostLogic>(
-    world: &mut World<S, M, H>,
+pub fn tick_all<S: SwitchLogic, M: ManagerLogic, H: HostLogic, W: Watcher<S, M, H>>(
+    world: &mut Stage<S, M, H, W>,
 ) -> Result<(), StepError>
     requires orderly { CanStep world.old }
     ensures made { EndsAs result (λ end. TicksAll S.rule M.rule H.rule world.old end world.new) }

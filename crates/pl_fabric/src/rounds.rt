@@ -5,14 +5,14 @@ ghost use Rattle.pl_fabric.specs.Rounds.{GoesRound, Sweeps};
 
 use crate::making::{tick_all, visit};
 use pl_node::{HostLogic, ManagerLogic, SwitchLogic};
-use pl_schedule::World;
+use pl_stage::{Stage, Watcher};
 use pl_world::StepError;
 
 /// A sweep: all queues are visited in queue order, and from each as many items are delivered as it held
 /// when the sweep came to it. No empty queue is looked at. Where a step is refused the steps before it
 /// stand. After want of memory the world is not used again.
-pub fn sweep<S: SwitchLogic, M: ManagerLogic, H: HostLogic>(
-    world: &mut World<S, M, H>,
+pub fn sweep<S: SwitchLogic, M: ManagerLogic, H: HostLogic, W: Watcher<S, M, H>>(
+    world: &mut Stage<S, M, H, W>,
 ) -> Result<(), StepError>
     requires orderly { CanStep world.old }
     ensures swept { EndsAs result (λ end. Sweeps S.rule M.rule H.rule world.old end world.new) }
@@ -31,8 +31,8 @@ pub fn sweep<S: SwitchLogic, M: ManagerLogic, H: HostLogic>(
 
 /// So many sweeps, one after the other. Where a step is refused the steps before it stand. After want of
 /// memory the world is not used again.
-pub fn sweep_often<S: SwitchLogic, M: ManagerLogic, H: HostLogic>(
-    world: &mut World<S, M, H>,
+pub fn sweep_often<S: SwitchLogic, M: ManagerLogic, H: HostLogic, W: Watcher<S, M, H>>(
+    world: &mut Stage<S, M, H, W>,
     times: u32,
 ) -> Result<(), StepError>
     requires orderly { CanStep world.old }
@@ -48,8 +48,8 @@ pub fn sweep_often<S: SwitchLogic, M: ManagerLogic, H: HostLogic>(
 
 /// A round: a tick of each switch in label order, and then four sweeps. Where a step is refused the steps
 /// before it stand. After want of memory the world is not used again.
-pub fn round<S: SwitchLogic, M: ManagerLogic, H: HostLogic>(
-    world: &mut World<S, M, H>,
+pub fn round<S: SwitchLogic, M: ManagerLogic, H: HostLogic, W: Watcher<S, M, H>>(
+    world: &mut Stage<S, M, H, W>,
 ) -> Result<(), StepError>
     requires orderly { CanStep world.old }
     ensures went { EndsAs result (λ end. GoesRound S.rule M.rule H.rule world.old end world.new) }

@@ -8,6 +8,7 @@ use crate::fabric::settled;
 use crate::rounds::round;
 use pl_node::{HostLogic, ManagerLogic, SwitchLogic};
 use pl_schedule::World;
+use pl_stage::{Stage, Watcher};
 use pl_world::StepError;
 
 /// How a settling ended.
@@ -48,8 +49,8 @@ fn answer<S: SwitchLogic, M: ManagerLogic, H: HostLogic>(
 /// Makes the least number of rounds, at most as many as asked, after which the fabric is settled and all
 /// queues are empty. Answers whether it is settled at the end. Where a step is refused the steps before
 /// it stand. After want of memory the world is not used again.
-pub fn settle<S: SwitchLogic, M: ManagerLogic, H: HostLogic>(
-    world: &mut World<S, M, H>,
+pub fn settle<S: SwitchLogic, M: ManagerLogic, H: HostLogic, W: Watcher<S, M, H>>(
+    world: &mut Stage<S, M, H, W>,
     rounds: u32,
 ) -> Result<Settling, StepError>
     requires orderly { CanStep world.old }
@@ -59,10 +60,10 @@ pub fn settle<S: SwitchLogic, M: ManagerLogic, H: HostLogic>(
     ensures plan { EndsAs result (λ _. world.new.plan ≡ world.old.plan) }
 {
     for used in 0..rounds {
-        if is_at_rest(world) {
+        if is_at_rest(world.world()) {
             return Ok(Settling::Settled(used));
         }
         round(world)?;
     }
-    Ok(answer(world, rounds))
+    Ok(answer(world.world(), rounds))
 }

@@ -24,6 +24,7 @@ use pl_law_registration::a_fabric_at_rest_has_empty_queues;
 use pl_law_theorem::lawful_logic_is_one_switch;
 use pl_manager_rule::LawfulManager;
 use pl_schedule::World;
+use pl_stage::{Nobody, Stage};
 use pl_switch_rule::LooseSwitch;
 use pl_wiring::Wiring;
 use pl_world::{Event, Limits, StepError};
@@ -34,7 +35,7 @@ pub fn boot<S: LooseSwitch, M: LawfulManager, H: LawfulHost>(
     alloc: Global,
     wiring: Wiring,
     limits: Limits,
-) -> Result<World<S, M, H>, Memory>
+) -> Result<Stage<S, M, H, Nobody>, Memory>
     requires { limits.steps ≤ 4000000000 }
     ensures booted { IfOk result (λ w. w ≡ booted wiring limits) }
     ensures orderly { IfOk result (λ w. CanStep w) }
@@ -44,12 +45,13 @@ pub fn boot<S: LooseSwitch, M: LawfulManager, H: LawfulHost>(
     lawful_logic_is_one_switch::<S, M, H>();
     // A wiring is a fat tree.
     let _hosts = wiring.hosts();
-    World::boot(alloc, wiring, limits)
+    let world = World::boot(alloc, wiring, limits)?;
+    Ok(Stage::new(world, Nobody))
 }
 
 /// One step of it. Where it is refused, nothing changes. After want of memory the world is not used again.
 pub fn make<S: LooseSwitch, M: LawfulManager, H: LawfulHost>(
-    world: &mut World<S, M, H>,
+    world: &mut Stage<S, M, H, Nobody>,
     event: &Event,
 ) -> Result<(), StepError>
     requires orderly { CanStep world.old }
@@ -65,7 +67,7 @@ pub fn make<S: LooseSwitch, M: LawfulManager, H: LawfulHost>(
 
 /// A mark in its journal. After want of memory the world is as it was.
 pub fn mark<S: LooseSwitch, M: LawfulManager, H: LawfulHost>(
-    world: &mut World<S, M, H>,
+    world: &mut Stage<S, M, H, Nobody>,
     entry: Entry,
 ) -> Result<(), Memory>
     requires mark { IsMark entry }
@@ -83,7 +85,7 @@ pub fn mark<S: LooseSwitch, M: LawfulManager, H: LawfulHost>(
 
 /// A sweep over its queues. Where a step is refused the steps before it stand.
 pub fn sweep<S: LooseSwitch, M: LawfulManager, H: LawfulHost>(
-    world: &mut World<S, M, H>,
+    world: &mut Stage<S, M, H, Nobody>,
 ) -> Result<(), StepError>
     requires orderly { CanStep world.old }
     requires moment { IsOfRun S.rule M.rule H.rule world.old }
@@ -102,7 +104,7 @@ pub fn sweep<S: LooseSwitch, M: LawfulManager, H: LawfulHost>(
 /// frame of a host has its place; and where fewer rounds were made than asked, each host is registered that its
 /// edge switch could learn of.
 pub fn settle<S: LooseSwitch, M: LawfulManager, H: LawfulHost>(
-    world: &mut World<S, M, H>,
+    world: &mut Stage<S, M, H, Nobody>,
     rounds: u32,
 ) -> Result<Settling, StepError>
     requires orderly { CanStep world.old }
@@ -123,7 +125,7 @@ pub fn settle<S: LooseSwitch, M: LawfulManager, H: LawfulHost>(
 
 /// So many steps that are drawn by numbers. Where one is refused the steps before it stand.
 pub fn random<S: LooseSwitch, M: LawfulManager, H: LawfulHost>(
-    world: &mut World<S, M, H>,
+    world: &mut Stage<S, M, H, Nobody>,
     number: u64,
     steps: u32,
 ) -> Result<(), StepError>

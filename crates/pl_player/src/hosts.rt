@@ -6,14 +6,14 @@ ghost use Rattle.pl_script_rule.specs.Lines.{hosts_meant};
 
 use pl_fabric::make;
 use pl_node::{HostLogic, ManagerLogic, SwitchLogic};
-use pl_schedule::World;
 use pl_script::Who;
+use pl_stage::{Stage, Watcher};
 use pl_wiring::HostNo;
 use pl_world::{Event, StepError};
 
 /// Each host starts, in the order of the wiring.
-pub(crate) fn start_all<S: SwitchLogic, M: ManagerLogic, H: HostLogic>(
-    world: &mut World<S, M, H>,
+pub(crate) fn start_all<S: SwitchLogic, M: ManagerLogic, H: HostLogic, W: Watcher<S, M, H>>(
+    world: &mut Stage<S, M, H, W>,
 ) -> Result<(), StepError>
     requires orderly { CanStep world.old }
     ensures made { EndsAs result (λ end. MakesAll S.rule M.rule H.rule (map event.Start (hosts_meant world.old.plan Who.All)) world.old end world.new) }
@@ -27,8 +27,8 @@ pub(crate) fn start_all<S: SwitchLogic, M: ManagerLogic, H: HostLogic>(
 }
 
 /// Each host asks again for the addresses that it waits for.
-pub(crate) fn retry_all<S: SwitchLogic, M: ManagerLogic, H: HostLogic>(
-    world: &mut World<S, M, H>,
+pub(crate) fn retry_all<S: SwitchLogic, M: ManagerLogic, H: HostLogic, W: Watcher<S, M, H>>(
+    world: &mut Stage<S, M, H, W>,
 ) -> Result<(), StepError>
     requires orderly { CanStep world.old }
     ensures made { EndsAs result (λ end. MakesAll S.rule M.rule H.rule (map event.Retry (hosts_meant world.old.plan Who.All)) world.old end world.new) }

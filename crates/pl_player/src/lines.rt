@@ -15,6 +15,7 @@ use pl_node::{HostLogic, ManagerLogic, SwitchLogic};
 use pl_pmac::Pmac;
 use pl_script::{Command, ScriptLine};
 use pl_script_rule::Stop;
+use pl_stage::Watcher;
 use pl_wiring::HostNo;
 use pl_world::Event;
 
@@ -29,7 +30,7 @@ fn expect(holds: bool) -> Result<(), Stop>
     }
 }
 
-impl<S: SwitchLogic, M: ManagerLogic, H: HostLogic> Player<S, M, H> {
+impl<S: SwitchLogic, M: ManagerLogic, H: HostLogic, W: Watcher<S, M, H>> Player<S, M, H, W> {
     fn expect_arrived(&self, h: HostNo, many: u64) -> Result<(), Stop>
         ensures { Ends result (λ end. Expects (arrivals self.now.world.journal h ≡ many) self.now end self.now) }
     {

@@ -13,14 +13,14 @@ use pl_fabric::make;
 use pl_frame::Memory;
 use pl_inputs::{Capture, Network};
 use pl_node::{HostLogic, ManagerLogic, SwitchLogic};
-use pl_schedule::World;
 use pl_script::ScriptLine;
 use pl_script_rule::Stop;
+use pl_stage::{Stage, Watcher};
 use pl_wiring::{Link, Wiring};
 use pl_world::{Event, StepError};
 use std::alloc::AllocError;
 
-impl<S: SwitchLogic, M: ManagerLogic, H: HostLogic> Player<S, M, H> {
+impl<S: SwitchLogic, M: ManagerLogic, H: HostLogic, W: Watcher<S, M, H>> Player<S, M, H, W> {
     /// Plays lines as `play` does, on a network on which no line was played yet. On bridges the links that are
     /// none of the tree fail before. After want of memory the player is not used again.
     pub fn play_on(
@@ -59,8 +59,8 @@ impl<S: SwitchLogic, M: ManagerLogic, H: HostLogic> Player<S, M, H> {
 }
 
 // Each link that is none of the tree fails, in link order. No such step is refused; want of memory may end it.
-fn leave_tree<S: SwitchLogic, M: ManagerLogic, H: HostLogic>(
-    world: &mut World<S, M, H>,
+fn leave_tree<S: SwitchLogic, M: ManagerLogic, H: HostLogic, W: Watcher<S, M, H>>(
+    world: &mut Stage<S, M, H, W>,
 ) -> Result<(), Memory>
     requires orderly { CanStep world.old }
     ensures left { OnOk result (world.new ≡ tree_from world.old.plan.k world.old world.old.plan.links) }
@@ -75,8 +75,8 @@ fn leave_tree<S: SwitchLogic, M: ManagerLogic, H: HostLogic>(
 
 // The link of this number fails, unless it is one of the tree.
 #[tactic(auto, using(crate::proofs::LinksLeft::failed_as_left, crate::proofs::LinksLeft::stayed_as_left))]
-fn leave_link<S: SwitchLogic, M: ManagerLogic, H: HostLogic>(
-    world: &mut World<S, M, H>,
+fn leave_link<S: SwitchLogic, M: ManagerLogic, H: HostLogic, W: Watcher<S, M, H>>(
+    world: &mut Stage<S, M, H, W>,
     n: usize,
 ) -> Result<(), Memory>
     requires orderly { CanStep world.old }
@@ -113,8 +113,8 @@ fn is_off_tree(wiring: &Wiring, link: Link, n: usize) -> bool
 
 // This link, the one of this number, fails. No such step is refused but for want of memory.
 #[tactic(auto, using(crate::proofs::LinksLeft::has_failed))]
-fn fail<S: SwitchLogic, M: ManagerLogic, H: HostLogic>(
-    world: &mut World<S, M, H>,
+fn fail<S: SwitchLogic, M: ManagerLogic, H: HostLogic, W: Watcher<S, M, H>>(
+    world: &mut Stage<S, M, H, W>,
     link: Link,
     n: usize,
 ) -> Result<(), Memory>

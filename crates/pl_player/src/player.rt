@@ -1,4 +1,5 @@
-ghost use Rattle.std.specs.Prelude.{◌≡◌, ◌≤◌, IfOk, slice_get};
+ghost use Rattle.std.specs.Prelude.{◌≡◌, ◌≤◌, IfOk, IfSome, slice_get};
+ghost use Rattle.pl_world.specs.Booting.{booted};
 ghost use Rattle.pl_script_rule.specs.Scenes.{first_scene};
 ghost use Rattle.pl_world.specs.Ready.{CanStep};
 
@@ -7,6 +8,7 @@ use pl_journal::Entry;
 use pl_node::{HostLogic, ManagerLogic, SwitchLogic};
 use pl_schedule::World;
 use pl_script_rule::Stop;
+use pl_stage::{Stage, Watcher};
 use pl_wiring::{HostNo, Wiring};
 use pl_world::{AttachmentPoint, Limits};
 use std::alloc::Global;
@@ -14,14 +16,15 @@ use std::marker::Model;
 
 /// A fabric on which a script is played. Contracts see it as a `Scene` (`specs/Scenes.antt` of pl_script_rule).
 #[derive(Drop)]
-pub struct Player<S: SwitchLogic, M: ManagerLogic, H: HostLogic> {
+pub struct Player<S: SwitchLogic, M: ManagerLogic, H: HostLogic, W: Watcher<S, M, H>> {
     pub(crate) alloc: Global,
-    pub(crate) world: World<S, M, H>,
+    pub(crate) world: Stage<S, M, H, W>,
     /// For each host how many of its records were asked for.
     pub(crate) asked: Vec<u64>,
 }
 
-impl<S: SwitchLogic, M: ManagerLogic, H: HostLogic> Model for Player<S, M, H> {
+impl<S: SwitchLogic, M: ManagerLogic, H: HostLogic, W: Watcher<S, M, H>> Model
+    for Player<S, M, H, W> {
     ghost use Rattle.pl_script_rule.specs.Scenes.{Scene};
 
     ghost Value = { Scene };
@@ -36,10 +39,16 @@ pub struct Stopped {
     pub stop: Stop,
 }
 
-impl<S: SwitchLogic, M: ManagerLogic, H: HostLogic> Player<S, M, H> {
-    /// A fabric at its beginning, on which no line was played.
-    pub fn begin(alloc: Global, wiring: Wiring, limits: Limits) -> Result<Player<S, M, H>, Memory>
-        requires { limits.steps ≤ 4000000000 }
+impl<S: SwitchLogic, M: ManagerLogic, H: HostLogic, W: Watcher<S, M, H>> Player<S, M, H, W> {
+    /// A fabric at its beginning, on which no line was played. The watcher has seen nothing yet.
+    pub fn begin(
+        alloc: Global,
+        wiring: Wiring,
+        limits: Limits,
+        watcher: W,
+    ) -> Result<Player<S, M, H, W>, Memory>
+        requires few { limits.steps ≤ 4000000000 }
+        requires unseen { W.has_seen watcher (booted wiring limits) }
         ensures scene { IfOk result (λ p. p ≡ first_scene wiring limits) }
         ensures orderly { IfOk result (λ p. CanStep p.world) }
     {
@@ -47,7 +56,7 @@ impl<S: SwitchLogic, M: ManagerLogic, H: HostLogic> Player<S, M, H> {
         let world = World::boot(alloc, wiring, limits)?;
         Ok(Player {
             alloc,
-            world,
+            world: Stage::new(world, watcher),
             asked,
         })
     }
@@ -55,7 +64,15 @@ impl<S: SwitchLogic, M: ManagerLogic, H: HostLogic> Player<S, M, H> {
     pub fn world(&self) -> &World<S, M, H>
         ensures { result.now ≡ self.now.world }
     {
-        &self.world
+        self.world.world()
+    }
+
+    /// The fabric that was come to, and the watcher that has seen all that led to it; none after want of memory.
+    pub fn into_parts(self) -> (World<S, M, H>, Option<W>)
+        ensures world { result.0 ≡ self.world }
+        ensures seen { IfSome result.1 (λ watcher. W.has_seen watcher self.world) }
+    {
+        self.world.into_parts()
     }
 
     pub(crate) fn alloc(&self) -> Global {
@@ -65,7 +82,7 @@ impl<S: SwitchLogic, M: ManagerLogic, H: HostLogic> Player<S, M, H> {
     pub(crate) fn journal(&self) -> &[Entry]
         ensures { result.now ≡ self.now.world.journal }
     {
-        self.world.journal().as_slice()
+        self.world.world().journal().as_slice()
     }
 
     pub(crate) fn wiring(&self) -> &Wiring
@@ -77,6 +94,6 @@ impl<S: SwitchLogic, M: ManagerLogic, H: HostLogic> Player<S, M, H> {
     pub(crate) fn place_of_host(&self, h: HostNo) -> Option<AttachmentPoint>
         ensures { result ≡ slice_get self.now.world.attachments h.0 }
     {
-        self.world.place_of_host(h)
+        self.world.world().place_of_host(h)
     }
 }

@@ -4,6 +4,7 @@ ghost use Rattle.pl_script_rule.specs.Queues.{between_switches, from_host, port_
 use crate::player::Player;
 use pl_node::{HostLogic, ManagerLogic, SwitchLogic};
 use pl_script::End;
+use pl_stage::Watcher;
 use pl_wiring::{HostNo, Link, SwitchNo};
 use pl_world::QueueName;
 use pl_world_parts::link_of;
@@ -19,7 +20,7 @@ fn port_of(a: SwitchNo, link: Link) -> u8
     }
 }
 
-impl<S: SwitchLogic, M: ManagerLogic, H: HostLogic> Player<S, M, H> {
+impl<S: SwitchLogic, M: ManagerLogic, H: HostLogic, W: Watcher<S, M, H>> Player<S, M, H, W> {
     /// The port of a switch whose link leads to another.
     pub(crate) fn port_towards(&self, a: SwitchNo, b: SwitchNo) -> Option<u8>
         ensures { result ≡ port_towards self.now.world.plan a.0 b.0 }

@@ -12,10 +12,11 @@ use pl_inputs::{Capture, one_more, record_at, record_count};
 use pl_node::{HostLogic, ManagerLogic, SwitchLogic};
 use pl_script::Count;
 use pl_script_rule::Stop;
+use pl_stage::Watcher;
 use pl_wiring::HostNo;
 use pl_world::{Event, StepError};
 
-impl<S: SwitchLogic, M: ManagerLogic, H: HostLogic> Player<S, M, H> {
+impl<S: SwitchLogic, M: ManagerLogic, H: HostLogic, W: Watcher<S, M, H>> Player<S, M, H, W> {
     /// How many records of a host were asked for.
     pub fn asked_of(&self, h: HostNo) -> u64
         ensures { result ≡ asked_of self.now h.0 }

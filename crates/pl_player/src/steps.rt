@@ -15,6 +15,7 @@ use pl_journal::Entry;
 use pl_node::{HostLogic, ManagerLogic, SwitchLogic};
 use pl_script::{End, Who};
 use pl_script_rule::Stop;
+use pl_stage::Watcher;
 use pl_wiring::SwitchNo;
 use pl_world::{Event, QueueName};
 
@@ -47,7 +48,7 @@ fn delivery(name: Option<QueueName>) -> Event
     }
 }
 
-impl<S: SwitchLogic, M: ManagerLogic, H: HostLogic> Player<S, M, H> {
+impl<S: SwitchLogic, M: ManagerLogic, H: HostLogic, W: Watcher<S, M, H>> Player<S, M, H, W> {
     /// One event.
     pub(crate) fn happen(&mut self, event: &Event) -> Result<(), Stop>
         requires orderly { CanStep self.old.world }

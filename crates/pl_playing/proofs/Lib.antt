@@ -2,5 +2,6 @@ pub mod Remaining
 pub mod Stopped
 pub mod Failing
 pub mod Playing
+pub mod Watching
 pub mod Preparing
 pub mod Exports

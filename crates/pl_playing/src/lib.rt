@@ -6,9 +6,11 @@
 
 pub use printing::play_and_print;
 pub use saving::{bridge_and_save, play_and_save};
+pub use watched::{Watched, play_before};
 
 mod on_bridges;
 mod on_fabric;
 mod played;
 mod printing;
 mod saving;
+mod watched;

@@ -19,13 +19,14 @@ use pl_script_rule::{
     a_script_on_the_tree_is_a_run, a_script_on_the_tree_keeps_to_it,
     hosts_on_the_tree_do_what_is_asked,
 };
+use pl_stage::Nobody;
 use std::alloc::Global;
 
 /// Plays the script of what was read on learning bridges. What came of it is a run of them, so that it can be saved.
 pub(crate) fn play_on_bridges<S: LearningBridge, M: ManagerLogic, H: HostLogic>(
     alloc: Global,
     inputs: Inputs,
-) -> Result<(Player<S, M, H>, Vec<Capture>), Status>
+) -> Result<(Player<S, M, H, Nobody>, Vec<Capture>), Status>
     requires { AllByRecursion LineRepairsNoLink (inputs_of inputs).lines }
     ensures ok { IfOk result (λ played. IsPlayedTo (on_bridges S.rule M.rule H.rule) (inputs_of inputs) (played_over played.0 played.1.items)) }
     ensures err { IfErr result (λ e. IsUnplayed (on_bridges S.rule M.rule H.rule).leads (inputs_of inputs) e) }

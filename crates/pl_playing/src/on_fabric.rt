@@ -11,6 +11,7 @@ use pl_law_theorem::lawful_logic_is_one_switch;
 use pl_manager_rule::LawfulManager;
 use pl_player::Player;
 use pl_script_rule::{a_script_is_a_run, hosts_do_what_is_asked};
+use pl_stage::Nobody;
 use pl_switch_rule::LooseSwitch;
 use std::alloc::Global;
 
@@ -18,7 +19,7 @@ use std::alloc::Global;
 pub(crate) fn play_on_fabric<S: LooseSwitch, M: LawfulManager, H: LawfulHost>(
     alloc: Global,
     inputs: Inputs,
-) -> Result<(Player<S, M, H>, Vec<Capture>), Status>
+) -> Result<(Player<S, M, H, Nobody>, Vec<Capture>), Status>
     ensures ok { IfOk result (λ played. IsPlayedTo (on_fabric S.rule M.rule H.rule) (inputs_of inputs) (played_over played.0 played.1.items)) }
     ensures err { IfErr result (λ e. IsUnplayed (on_fabric S.rule M.rule H.rule).leads (inputs_of inputs) e) }
 {

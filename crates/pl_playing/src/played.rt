@@ -17,16 +17,24 @@ use pl_node::{HostLogic, ManagerLogic, SwitchLogic};
 use pl_output::summary::{Rest, summary};
 use pl_player::{Player, Stopped};
 use pl_script_rule::Stop;
+use pl_stage::Nobody;
 use pl_wiring::HostNo;
 use pl_world::{Limits, StepError};
 use std::alloc::Global;
+
+/// How long a run may become.
+pub(crate) const LIMITS: Limits = Limits {
+    steps: 50_000_000,
+    entries: 5_000_000,
+    bytes: 268_435_456,
+};
 
 /// Plays the script of what was read: a network on which it was played to its end, and the captures that it was played over.
 pub(crate) fn play_script<S: SwitchLogic, M: ManagerLogic, H: HostLogic>(
     alloc: Global,
     network: Network,
     inputs: Inputs,
-) -> Result<(Player<S, M, H>, Vec<Capture>), Status>
+) -> Result<(Player<S, M, H, Nobody>, Vec<Capture>), Status>
     ensures ok { IfOk result (λ played. IsPlayedOver (PlaysTo S.rule M.rule H.rule network) (inputs_of inputs) (played_over played.0 played.1.items)) }
     ensures err { IfErr result (λ e. IsUnplayed (PlaysTo S.rule M.rule H.rule network) (inputs_of inputs) e) }
 {
@@ -35,21 +43,15 @@ pub(crate) fn play_script<S: SwitchLogic, M: ManagerLogic, H: HostLogic>(
         script,
         captures,
     } = inputs;
-    // How long a run may become.
-    let limits = Limits {
-        steps: 50_000_000,
-        entries: 5_000_000,
-        bytes: 268_435_456,
-    };
-    let mut fabric: Player<S, M, H> = Player::begin(alloc, wiring, limits)?;
+    let mut fabric: Player<S, M, H, Nobody> = Player::begin(alloc, wiring, LIMITS, Nobody)?;
     match fabric.play_on(network, &captures, script.lines()) {
         Ok(()) => Ok((fabric, captures)),
         Err(stopped) => Err(status_of(stopped)),
     }
 }
 
-// What is answered for a script that was stopped.
-fn status_of(stopped: Stopped) -> Status
+/// What is answered for a script that was stopped.
+pub(crate) fn status_of(stopped: Stopped) -> Status
     ensures { result ≡ outcome (Some (stopped.line, stopped.stop)) }
 {
     match stopped.stop {
@@ -74,7 +76,7 @@ fn refused_at(line: u32, reason: StepError) -> Status
 
 /// Whether a fabric is settled.
 pub(crate) fn is_settled<S: SwitchLogic, M: ManagerLogic, H: HostLogic>(
-    fabric: &Player<S, M, H>,
+    fabric: &Player<S, M, H, Nobody>,
 ) -> bool
     requires { IsCounted fabric.now.world }
     ensures { IsTrue result ↔ IsSettled fabric.now.world }
@@ -84,7 +86,7 @@ pub(crate) fn is_settled<S: SwitchLogic, M: ManagerLogic, H: HostLogic>(
 
 /// Whether no queue of bridges has items.
 pub(crate) fn is_drained<S: SwitchLogic, M: ManagerLogic, H: HostLogic>(
-    bridges: &Player<S, M, H>,
+    bridges: &Player<S, M, H, Nobody>,
 ) -> bool
     ensures { IsTrue result ↔ IsDrained bridges.now.world }
 {
@@ -94,7 +96,7 @@ pub(crate) fn is_drained<S: SwitchLogic, M: ManagerLogic, H: HostLogic>(
 /// The text of the summary; `is_settled` says whether the network is settled now.
 pub(crate) fn summary_of<S: SwitchLogic, M: ManagerLogic, H: HostLogic>(
     alloc: Global,
-    fabric: &Player<S, M, H>,
+    fabric: &Player<S, M, H, Nobody>,
     captures: &[Capture],
     is_settled: bool,
 ) -> Result<String, Memory>
@@ -118,7 +120,7 @@ pub(crate) fn summary_of<S: SwitchLogic, M: ManagerLogic, H: HostLogic>(
 // What is left of each host.
 fn rests<S: SwitchLogic, M: ManagerLogic, H: HostLogic>(
     alloc: Global,
-    fabric: &Player<S, M, H>,
+    fabric: &Player<S, M, H, Nobody>,
     captures: &[Capture],
 ) -> Result<Vec<Rest>, Memory>
     requires hosts { length captures.now ≡ length fabric.now.world.plan.hosts }
@@ -134,7 +136,7 @@ fn rests<S: SwitchLogic, M: ManagerLogic, H: HostLogic>(
 }
 
 fn rest_of<S: SwitchLogic, M: ManagerLogic, H: HostLogic>(
-    fabric: &Player<S, M, H>,
+    fabric: &Player<S, M, H, Nobody>,
     captures: &[Capture],
     h: HostNo,
     tail: u64,

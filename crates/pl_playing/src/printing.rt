@@ -15,6 +15,7 @@ use pl_node::{HostLogic, ManagerLogic, SwitchLogic};
 use pl_output::print;
 use pl_player::Player;
 use pl_shelf::Shelf;
+use pl_stage::Nobody;
 use pl_switch_rule::LooseSwitch;
 use pl_wiring::Name;
 use std::alloc::Global;
@@ -40,7 +41,7 @@ pub fn play_and_print<S: LooseSwitch, M: LawfulManager, H: LawfulHost, D: Shelf>
 // Prints the summary of a script that was played; `is_settled` says whether the network is settled now.
 fn print_played<S: SwitchLogic, M: ManagerLogic, H: HostLogic, D: Shelf>(
     alloc: Global,
-    network: &Player<S, M, H>,
+    network: &Player<S, M, H, Nobody>,
     captures: &[Capture],
     is_settled: bool,
     shelf: &mut D,

@@ -24,6 +24,7 @@ use pl_node::{HostLogic, ManagerLogic, SwitchLogic};
 use pl_output::{Piece, Texts, save_all};
 use pl_player::Player;
 use pl_shelf::Shelf;
+use pl_stage::Nobody;
 use pl_switch_rule::LooseSwitch;
 use std::alloc::Global;
 
@@ -70,7 +71,7 @@ pub fn bridge_and_save<S: LearningBridge, M: ManagerLogic, H: HostLogic, D: Shel
 fn save_played<S: SwitchLogic, M: ManagerLogic, H: HostLogic, D: Shelf>(
     alloc: Global,
     out: &str,
-    network: &Player<S, M, H>,
+    network: &Player<S, M, H, Nobody>,
     captures: &[Capture],
     is_settled: bool,
     shelf: &mut D,
@@ -96,7 +97,7 @@ fn save_played<S: SwitchLogic, M: ManagerLogic, H: HostLogic, D: Shelf>(
 fn texts_of<S: SwitchLogic, M: ManagerLogic, H: HostLogic>(
     alloc: Global,
     out: &str,
-    network: &Player<S, M, H>,
+    network: &Player<S, M, H, Nobody>,
     captures: &[Capture],
     is_settled: bool,
 ) -> Result<Texts, Memory>

@@ -11,6 +11,7 @@ use pl_host::Host;
 use pl_journal::Entry;
 use pl_node::{ManagerLogic, SwitchLogic};
 use pl_schedule::World;
+use pl_stage::{Nobody, Stage};
 use pl_test_words::{first_word, is_remark, say};
 use pl_wiring::Wiring;
 use pl_world::{Event, Limits, StepError};
@@ -26,12 +27,13 @@ pub(crate) fn play_world<S: SwitchLogic, M: ManagerLogic>(
 ) -> Result<bool, Memory>
     requires { limits.steps ≤ 4000000000 }
 {
-    let mut world: World<S, M, Host> = World::boot(alloc, wiring, limits)?;
+    let booted: World<S, M, Host> = World::boot(alloc, wiring, limits)?;
+    let mut world = Stage::new(booted, Nobody);
     play_all(&mut world, alloc, lines, out)
 }
 
 fn play_all<S: SwitchLogic, M: ManagerLogic>(
-    world: &mut World<S, M, Host>,
+    world: &mut Stage<S, M, Host, Nobody>,
     alloc: Global,
     lines: &[&str],
     out: &mut String,
@@ -47,7 +49,7 @@ fn play_all<S: SwitchLogic, M: ManagerLogic>(
 // Plays a line in a world: each entry of the journal that it brings about is printed, and then what it
 // answers.
 fn play<S: SwitchLogic, M: ManagerLogic>(
-    world: &mut World<S, M, Host>,
+    world: &mut Stage<S, M, Host, Nobody>,
     alloc: Global,
     line: &str,
     out: &mut String,
@@ -58,15 +60,15 @@ fn play<S: SwitchLogic, M: ManagerLogic>(
     if is_remark(line) {
         return say(out, line);
     }
-    let told = world.journal().len();
+    let told = world.world().journal().len();
     let mut said = String::new(alloc);
     answer(world, alloc, line, &mut said)?;
-    tell_entries(world, alloc, told, out)?;
+    tell_entries(world.world(), alloc, told, out)?;
     out.push_str(&said)
 }
 
 fn answer<S: SwitchLogic, M: ManagerLogic>(
-    world: &mut World<S, M, Host>,
+    world: &mut Stage<S, M, Host, Nobody>,
     alloc: Global,
     line: &str,
     said: &mut String,
@@ -80,7 +82,11 @@ fn answer<S: SwitchLogic, M: ManagerLogic>(
         "ticks" => ticks(world, alloc, rest, said),
         "settle" | "sweep" | "random" => play_fabric(world, alloc, verb, rest, said),
         "pending" | "steps" | "heard" | "len" | "next" | "usable" => look(
-            world, alloc, verb, rest, said,
+            world.world(),
+            alloc,
+            verb,
+            rest,
+            said,
         ),
         _ => step(world, alloc, line, said),
     }
@@ -88,7 +94,7 @@ fn answer<S: SwitchLogic, M: ManagerLogic>(
 
 // An event, which is made or refused.
 fn step<S: SwitchLogic, M: ManagerLogic>(
-    world: &mut World<S, M, Host>,
+    world: &mut Stage<S, M, Host, Nobody>,
     alloc: Global,
     line: &str,
     said: &mut String,
@@ -107,7 +113,7 @@ fn step<S: SwitchLogic, M: ManagerLogic>(
 
 // SWITCH TIMES
 fn ticks<S: SwitchLogic, M: ManagerLogic>(
-    world: &mut World<S, M, Host>,
+    world: &mut Stage<S, M, Host, Nobody>,
     alloc: Global,
     rest: &str,
     said: &mut String,
@@ -127,7 +133,7 @@ fn ticks<S: SwitchLogic, M: ManagerLogic>(
 }
 
 fn make_often<S: SwitchLogic, M: ManagerLogic>(
-    world: &mut World<S, M, Host>,
+    world: &mut Stage<S, M, Host, Nobody>,
     event: &Event,
     times: u32,
 ) -> Result<(), Memory>
@@ -142,7 +148,7 @@ fn make_often<S: SwitchLogic, M: ManagerLogic>(
 
 // Makes a step, or answers why it is refused.
 fn make<S: SwitchLogic, M: ManagerLogic>(
-    world: &mut World<S, M, Host>,
+    world: &mut Stage<S, M, Host, Nobody>,
     event: &Event,
 ) -> Result<Option<StepError>, Memory>
     requires orderly { CanStep world.old }
@@ -169,7 +175,7 @@ fn say_refused(alloc: Global, refused: Option<StepError>, said: &mut String) -> 
 
 // line N, settled N or unsettled N
 fn mark<S: SwitchLogic, M: ManagerLogic>(
-    world: &mut World<S, M, Host>,
+    world: &mut Stage<S, M, Host, Nobody>,
     rest: &str,
     said: &mut String,
 ) -> Result<(), Memory>

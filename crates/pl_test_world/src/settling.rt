@@ -5,14 +5,14 @@ use pl_fabric::{Settling, random, settle, sweep};
 use pl_frame::Memory;
 use pl_host::Host;
 use pl_node::{ManagerLogic, SwitchLogic};
-use pl_schedule::World;
+use pl_stage::{Nobody, Stage};
 use pl_test_words::{first_word, say};
 use pl_world::StepError;
 use std::alloc::{AllocError, Global};
 
 /// `settle ROUNDS`, `sweep TIMES` or `random NUMBER STEPS`.
 pub(crate) fn play_fabric<S: SwitchLogic, M: ManagerLogic>(
-    world: &mut World<S, M, Host>,
+    world: &mut Stage<S, M, Host, Nobody>,
     alloc: Global,
     verb: &str,
     rest: &str,
@@ -35,7 +35,7 @@ pub(crate) fn play_fabric<S: SwitchLogic, M: ManagerLogic>(
 }
 
 fn settle_within<S: SwitchLogic, M: ManagerLogic>(
-    world: &mut World<S, M, Host>,
+    world: &mut Stage<S, M, Host, Nobody>,
     alloc: Global,
     rounds: u32,
     said: &mut String,
@@ -60,7 +60,7 @@ fn say_settling(alloc: Global, settling: Settling, said: &mut String) -> Result<
 }
 
 fn sweep_often<S: SwitchLogic, M: ManagerLogic>(
-    world: &mut World<S, M, Host>,
+    world: &mut Stage<S, M, Host, Nobody>,
     times: u32,
     said: &mut String,
 ) -> Result<(), Memory>
@@ -74,7 +74,9 @@ fn sweep_often<S: SwitchLogic, M: ManagerLogic>(
 }
 
 // Where a step is refused the steps before it stand.
-fn sweep_once<S: SwitchLogic, M: ManagerLogic>(world: &mut World<S, M, Host>) -> Result<(), Memory>
+fn sweep_once<S: SwitchLogic, M: ManagerLogic>(
+    world: &mut Stage<S, M, Host, Nobody>,
+) -> Result<(), Memory>
     requires orderly { CanStep world.old }
     ensures orderly { OnOk result (CanStep world.new) }
 {
@@ -87,7 +89,7 @@ fn sweep_once<S: SwitchLogic, M: ManagerLogic>(world: &mut World<S, M, Host>) ->
 }
 
 fn draw<S: SwitchLogic, M: ManagerLogic>(
-    world: &mut World<S, M, Host>,
+    world: &mut Stage<S, M, Host, Nobody>,
     number: u64,
     steps: u32,
     said: &mut String,

@@ -1,5 +1,6 @@
 use Rattle.std.proofs.lemmas.Result.{IfOk-weaker, err_from_is_err_and}
-use Rattle.std.proofs.Common.{◌≡◌, ℕ, suc, ◌+◌, ◌-◌, None, Some, refl, ◌∙◌, arith}
+use Rattle.std.proofs.Common.{◌≡◌, ℕ, suc, ◌+◌, ◌-◌, None, Some, IfOk, refl, sym, ◌∙◌, subst, arith}
+use Rattle.pl_world.specs.Worlds.{WorldView}
 use Rattle.pl_fabric.specs.Drains.{Drains, GoesSweeps, IsDrainAnswer, IsDrained}
 use Rattle.pl_fabric.specs.Rounds.{Sweeps}
 use Rattle.pl_fabric.proofs.ExecutionSteps.{leads_all, then_on, then_stops, unless_weaker}
@@ -13,7 +14,7 @@ loop-used-init g c = (
 
 pub loop-used-preserved : goal.loop-used-preserved
 loop-used-preserved g c =
-    let unrest : IsDrained c.loop-used.world → ⊥ = (λ rest. let is = c.drained.ensures.1 rest in let not = c.if-drained.false in absurd (cc)) in (
+    let unrest : IsDrained c.loop-used.world → ⊥ = (λ rest. let is = c.drained.ensures.1 (subst IsDrained (sym c.world.ensures) rest) in let not = c.if-drained.false in absurd (cc)) in (
       record {
         orderly = c.in_ok-sweep.ensures.orderly;
         plan = c.in_ok-sweep.ensures.plan ∙ c.loop-used.invariant.0.plan;
@@ -31,7 +32,7 @@ loop-used-preserved g c =
 pub returns-in_err-sweep : goal.returns-in_err-sweep
 returns-in_err-sweep g c =
     let p = err_from_is_err_and c.from_residual.result c.from_residual.ensures.1 in
-    let unrest : IsDrained c.loop-used.world → ⊥ = (λ rest. let is = c.drained.ensures.1 rest in let not = c.if-drained.false in absurd (cc)) in
+    let unrest : IsDrained c.loop-used.world → ⊥ = (λ rest. let is = c.drained.ensures.1 (subst IsDrained (sym c.world.ensures) rest) in let not = c.if-drained.false in absurd (cc)) in
     let left : ℕ = c.args.sweeps - (c.loop-used.used + 1) in
     let all : suc left + c.loop-used.used ≡ c.args.sweeps = omega arith in
     rw (p.1, p.2) (record {
@@ -49,7 +50,7 @@ returns-in_err-sweep g c =
 
 pub returns-then-drained : goal.returns-then-drained
 returns-then-drained g c =
-    let rest : IsDrained c.loop-used.world = c.drained.ensures.0 c.if-drained.true in
+    let rest : IsDrained c.loop-used.world = subst IsDrained c.world.ensures (c.drained.ensures.0 c.if-drained.true) in
     record {
       drains = record {
         used = c.loop-used.used;
@@ -74,4 +75,4 @@ returns-clause-drains g c =
       least = λ less. absurd (omega arith);
       answered = answered;
     })
-    c.answer.ensures.ok
+    (subst (λ (w : WorldView). IfOk c.answer.result (λ answer. IsDrainAnswer w c.args.sweeps answer)) c.world-2.ensures c.answer.ensures.ok)

@@ -1,5 +1,6 @@
 use Rattle.std.proofs.lemmas.Result.{err_from_is_err_and}
 use Rattle.std.proofs.Common.{◌≡◌, ℕ, suc, ◌+◌, ◌-◌, None, Some, refl, sym, ◌∙◌, ap, subst, arith}
+use Rattle.pl_world.specs.Worlds.{WorldView}
 use Rattle.pl_fabric.specs.Executions.{Makes}
 use Rattle.pl_fabric.specs.Draws.{Draws, drawn, next_number}
 use Rattle.pl_fabric.proofs.ExecutionSteps.{Leads, leads_all, led_on, led_stops, unless_weaker}
@@ -14,7 +15,7 @@ loop-init g c = (
 pub loop-preserved : goal.loop-preserved
 loop-preserved g c =
     let x : c.next_number-x.result ≡ next_number c.loop.x = c.next_number-x.ensures in
-    let event : c.drawn-event.result ≡ drawn c.loop.world (next_number c.loop.x) = c.drawn-event.ensures ∙ ap (drawn c.loop.world) x in (
+    let event : c.drawn-event.result ≡ drawn c.loop.world (next_number c.loop.x) = c.drawn-event.ensures ∙ ap (λ (w : WorldView). drawn w c.next_number-x.result) c.world.ensures ∙ ap (drawn c.loop.world) x in (
       record {
         orderly = c.in_ok-make.ensures.orderly;
         plan = c.in_ok-make.ensures.plan ∙ c.loop.invariant.0.plan;
@@ -33,7 +34,7 @@ pub returns-in_err-make : goal.returns-in_err-make
 returns-in_err-make g c =
     let p = err_from_is_err_and c.from_residual.result c.from_residual.ensures.1 in
     let x : c.next_number-x.result ≡ next_number c.loop.x = c.next_number-x.ensures in
-    let event : c.drawn-event.result ≡ drawn c.loop.world (next_number c.loop.x) = c.drawn-event.ensures ∙ ap (drawn c.loop.world) x in
+    let event : c.drawn-event.result ≡ drawn c.loop.world (next_number c.loop.x) = c.drawn-event.ensures ∙ ap (λ (w : WorldView). drawn w c.next_number-x.result) c.world.ensures ∙ ap (drawn c.loop.world) x in
     let left : ℕ = c.args.steps - (c.loop.counter + 1) in
     let all : suc left + c.loop.counter ≡ c.args.steps = omega arith in
     rw (p.1, p.2) (record {

@@ -1,9 +1,17 @@
 use Rattle.std.proofs.lemmas.Result.{err_from_is_err_and}
-use Rattle.std.proofs.Common.{◌≡◌, ℕ, suc, ◌+◌, ◌-◌, None, Some, refl, ◌∙◌, arith}
+use Rattle.std.proofs.Common.{◌≡◌, ℕ, suc, ◌+◌, ◌-◌, None, Some, refl, sym, ◌∙◌, subst, arith}
+use Rattle.pl_world.specs.Flying.{IsCounted}
+use Rattle.pl_world.specs.Worlds.{WorldView}
 use Rattle.pl_fabric.specs.Rounds.{GoesRound}
-use Rattle.pl_fabric.specs.Settlings.{GoesRounds, IsAtRest}
+use Rattle.pl_fabric.specs.Settlings.{GoesRounds, IsAtRest, IsSettlingAnswer}
 use Rattle.pl_fabric.proofs.ExecutionSteps.{leads_all, then_on, then_stops, unless_weaker}
 use Rattle.pl_fabric.proofs.settling.settle.Goals as goal
+
+pub is_at_rest-requires : goal.is_at_rest-requires
+is_at_rest-requires g c = subst IsCounted (sym c.world.ensures) c.loop-used.invariant.0.orderly.counted
+
+pub answer-requires : goal.answer-requires
+answer-requires g c = subst IsCounted (sym c.world-2.ensures) c.loop-used.invariant.0.orderly.counted
 
 pub loop-used-init : goal.loop-used-init
 loop-used-init g c = (
@@ -13,7 +21,7 @@ loop-used-init g c = (
 
 pub loop-used-preserved : goal.loop-used-preserved
 loop-used-preserved g c =
-    let unrest : IsAtRest c.loop-used.world → ⊥ = (λ rest. let is = c.is_at_rest.ensures.1 rest in let not = c.if-is_at_rest.false in absurd (cc)) in (
+    let unrest : IsAtRest c.loop-used.world → ⊥ = (λ rest. let is = c.is_at_rest.ensures.1 (subst IsAtRest (sym c.world.ensures) rest) in let not = c.if-is_at_rest.false in absurd (cc)) in (
       record {
         orderly = c.in_ok-round.ensures.orderly;
         plan = c.in_ok-round.ensures.plan ∙ c.loop-used.invariant.0.plan;
@@ -31,7 +39,7 @@ loop-used-preserved g c =
 pub returns-in_err-round : goal.returns-in_err-round
 returns-in_err-round g c =
     let p = err_from_is_err_and c.from_residual.result c.from_residual.ensures.1 in
-    let unrest : IsAtRest c.loop-used.world → ⊥ = (λ rest. let is = c.is_at_rest.ensures.1 rest in let not = c.if-is_at_rest.false in absurd (cc)) in
+    let unrest : IsAtRest c.loop-used.world → ⊥ = (λ rest. let is = c.is_at_rest.ensures.1 (subst IsAtRest (sym c.world.ensures) rest) in let not = c.if-is_at_rest.false in absurd (cc)) in
     let left : ℕ = c.args.rounds - (c.loop-used.used + 1) in
     let all : suc left + c.loop-used.used ≡ c.args.rounds = omega arith in
     rw (p.1, p.2) (record {
@@ -49,7 +57,7 @@ returns-in_err-round g c =
 
 pub returns-then-is_at_rest : goal.returns-then-is_at_rest
 returns-then-is_at_rest g c =
-    let rest : IsAtRest c.loop-used.world = c.is_at_rest.ensures.0 c.if-is_at_rest.true in
+    let rest : IsAtRest c.loop-used.world = subst IsAtRest c.world.ensures (c.is_at_rest.ensures.0 c.if-is_at_rest.true) in
     record {
       settles = record {
         used = c.loop-used.used;
@@ -70,7 +78,7 @@ returns g c = record {
     rounds = (c.loop-used.invariant.1 0 c.args.rounds (omega arith)).on None c.loop-used.world (refl, refl);
     within = omega arith;
     least = λ less. absurd (omega arith);
-    answered = c.answer.ensures;
+    answered = subst (λ (w : WorldView). IsSettlingAnswer w c.args.rounds c.answer.result) c.world-2.ensures c.answer.ensures;
   };
   refused = tt;
   orderly = c.loop-used.invariant.0.orderly;

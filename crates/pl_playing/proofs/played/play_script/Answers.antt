@@ -10,8 +10,8 @@ use Rattle.pl_playing.specs.Plays.{IsPlayedOver, IsUnplayed, played_over}
 use Rattle.pl_playing.proofs.Playing.{plays_over, unplayed}
 use Rattle.pl_playing.proofs.played.play_script.Goals as goal
 
-pub begin-requires : goal.begin-requires
-begin-requires g c = omega arith
+pub begin-requires-clause-few : goal.begin-requires-clause-few
+begin-requires-clause-few g c = omega arith
 
 pub play_on-requires : goal.play_on-requires
 play_on-requires g c = record { orderly = c.in_ok-fabric.ensures.orderly }

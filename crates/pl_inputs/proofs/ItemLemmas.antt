@@ -6,16 +6,16 @@ use Rattle.std.specs.List.{list_any}
 use Rattle.std.specs.Option.{option_and_then, option_copied, option_to_list}
 use Rattle.std.specs.Str.{bytes_eq}
 use Rattle.pl_inputs.specs.Met.{texts}
-use Rattle.pl_inputs.specs.Words.{Given, beside, is_among, items_of, only, values}
+use Rattle.pl_inputs.specs.Words.{Given, at_most_one, beside, is_among, items_of, only, value_if_given, value_in, values}
 
 -- the value, where one was met already, if any, and these items follow
-abbrev pub value_with : Option (List ℕ) → List ℕ → Option (List Given) → Option (List ℕ)
-value_with met name items = option_and_then (λ xs. only (option_to_list met ++ values name xs)) items
+abbrev pub value_with : Option (List ℕ) → List ℕ → Option (List Given) → Option (Option (List ℕ))
+value_with met name items = option_and_then (λ xs. at_most_one (option_to_list met ++ values name xs)) items
 
 -- the values where the next item has the name or not
-abbrev with_next : Option (List ℕ) → List ℕ → Given → List Given → Bool → Option (List ℕ)
+abbrev with_next : Option (List ℕ) → List ℕ → Given → List Given → Bool → Option (Option (List ℕ))
 with_next met name item items same =
-    only (option_to_list met ++ map (λ i. i.1) (cond same (item ∷ filter (λ i. bytes_eq i.0 name) items) (filter (λ i. bytes_eq i.0 name) items)))
+    at_most_one (option_to_list met ++ map (λ i. i.1) (cond same (item ∷ filter (λ i. bytes_eq i.0 name) items) (filter (λ i. bytes_eq i.0 name) items)))
 
 pub first_met : (name : List ℕ) (item : Given) (rest : Option (List Given)) → bytes_eq item.0 name ≡ true →
     value_with None name (beside (Some item) rest) ≡ value_with (Some item.1) name rest
@@ -32,7 +32,7 @@ pub other_met : (met : Option (List ℕ)) (name : List ℕ) (item : Given) (rest
 other_met met name item None other = refl
 other_met met name item (Some items) other = ap (with_next met name item items) other
 
-nothing_follows : (met : Option (List ℕ)) (name : List ℕ) → value_with met name (Some []) ≡ met
+nothing_follows : (met : Option (List ℕ)) (name : List ℕ) → value_with met name (Some []) ≡ Some met
 nothing_follows None name = refl
 nothing_follows (Some value) name = refl
 
@@ -45,7 +45,7 @@ abbrev pub rest_at : List (Bor (List ℕ)) → ℕ → List (Bor (List ℕ))
 rest_at words at = take (length words - at) (drop at words)
 
 -- The walk has come to the word at this index, where what was found and what follows give the whole.
-module _ (name : List ℕ) (names : List (List ℕ)) (words : List (Bor (List ℕ))) (at : ℕ) (found : Option (Bor (List ℕ))) (whole : Option (List ℕ))
+module _ (name : List ℕ) (names : List (List ℕ)) (words : List (Bor (List ℕ))) (at : ℕ) (found : Option (Bor (List ℕ))) (whole : Option (Option (List ℕ)))
     (so_far : value_with (option_copied found) name (items_of names (drop at (texts words))) ≡ whole) where
   rest_is : drop at (texts words) ≡ texts (rest_at words at)
   rest_is = drop-map (λ w. w.now) at words ∙ ap texts (sym (take_rest words at))
@@ -59,7 +59,7 @@ module _ (name : List ℕ) (names : List (List ℕ)) (words : List (Bor (List �
       sym (ap (value_with (option_copied found) name) (ap (items_of names) rest_is ∙ none some)) ∙ so_far
 
   -- there are no words
-  pub ends : length words ≤ at → option_copied found ≡ whole
+  pub ends : length words ≤ at → Some (option_copied found) ≡ whole
   unfolding items_of
   ends all =
       let many = length-map words (λ w. w.now) in
@@ -81,7 +81,7 @@ module _ (name : List ℕ) (names : List (List ℕ)) (words : List (Bor (List �
     passes_by other = sym (other_met (option_copied found) name item (items_of names (drop (at + many) (texts words))) other) ∙ so_far_is
 
 -- an item with the name
-pub finds : (name : List ℕ) (names : List (List ℕ)) (words : List (Bor (List ℕ))) (at : ℕ) (found : Option (Bor (List ℕ))) (whole : Option (List ℕ)) →
+pub finds : (name : List ℕ) (names : List (List ℕ)) (words : List (Bor (List ℕ))) (at : ℕ) (found : Option (Bor (List ℕ))) (whole : Option (Option (List ℕ))) →
     value_with (option_copied found) name (items_of names (drop at (texts words))) ≡ whole →
     (item : Given) (many : ℕ) → items_of names (texts (rest_at words at)) ≡ beside (Some item) (items_of names (drop many (texts (rest_at words at)))) →
     bytes_eq item.0 name ≡ true → is_some found ≡ false → value_with (Some item.1) name (items_of names (drop (at + many) (texts words))) ≡ whole
@@ -89,10 +89,21 @@ finds name names words at None whole so_far item many is same first =
     sym (first_met name item (items_of names (drop (at + many) (texts words))) same) ∙ so_far_is name names words at None whole so_far item many is
 finds name names words at (Some value) whole so_far item many is same first = cc
 
-pub finds_again : (name : List ℕ) (names : List (List ℕ)) (words : List (Bor (List ℕ))) (at : ℕ) (found : Option (Bor (List ℕ))) (whole : Option (List ℕ)) →
+pub finds_again : (name : List ℕ) (names : List (List ℕ)) (words : List (Bor (List ℕ))) (at : ℕ) (found : Option (Bor (List ℕ))) (whole : Option (Option (List ℕ))) →
     value_with (option_copied found) name (items_of names (drop at (texts words))) ≡ whole →
     (item : Given) (many : ℕ) → items_of names (texts (rest_at words at)) ≡ beside (Some item) (items_of names (drop many (texts (rest_at words at)))) →
     bytes_eq item.0 name ≡ true → is_some found ≡ true → None ≡ whole
 finds_again name names words at None whole so_far item many is same second = cc
 finds_again name names words at (Some value) whole so_far item many is same second =
     sym (second_met value.now name item (items_of names (drop (at + many) (texts words))) same) ∙ so_far_is name names words at (Some value) whole so_far item many is
+
+-- the one value is that which may be there
+one_is : (values : List (List ℕ)) → option_and_then (λ o. o) (at_most_one values) ≡ only values
+one_is [] = refl
+one_is (value ∷ []) = refl
+one_is (value ∷ second ∷ values) = refl
+
+pub value_from : (name : List ℕ) (items : Option (List Given)) (may : Option (Option (List ℕ))) → may ≡ option_and_then (value_if_given name) items →
+    option_and_then (λ o. o) may ≡ option_and_then (value_in name) items
+value_from name None may is = ap (option_and_then (λ o. o)) is
+value_from name (Some items) may is = ap (option_and_then (λ o. o)) is ∙ one_is (values name items)

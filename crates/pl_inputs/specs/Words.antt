@@ -89,6 +89,15 @@ only _ = None
 abbrev pub value_in : List ℕ → List Given → Option (List ℕ)
 value_in name items = only (values name items)
 
+-- the same of an item that need not be there
+abbrev pub at_most_one : List (List ℕ) → Option (Option (List ℕ))
+at_most_one [] = Some None
+at_most_one (value ∷ []) = Some (Some value)
+at_most_one _ = None
+
+abbrev pub value_if_given : List ℕ → List Given → Option (Option (List ℕ))
+value_if_given name items = at_most_one (values name items)
+
 -- a value before others
 abbrev pub before : Option (List ℕ) → Option (List (List ℕ)) → Option (List (List ℕ))
 before (Some value) (Some values) = Some (value ∷ values)

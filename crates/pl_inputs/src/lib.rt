@@ -10,7 +10,7 @@ pub use numbers::one_more;
 pub use records::{RecordedFrame, record_at, record_count};
 pub use status::Status;
 pub use step::StepReason;
-pub use words::{Files, Generation, Network, Task, task_of};
+pub use words::{Files, Generation, Items, Network, Task, task_of};
 
 mod capture;
 mod fault;

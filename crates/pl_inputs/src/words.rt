@@ -5,7 +5,7 @@ ghost use Rattle.pl_inputs.specs.Words.{arity_in, check_by, check_items, generat
 ghost use Rattle.pl_wiring.specs.Labels.{IsArity};
 ghost use Rattle.pl_inputs.specs.Met.{MayBeMade, IsWithinLimits, task, texts};
 
-use items::Items;
+pub use items::Items;
 use pl_script::number;
 
 mod items;

@@ -9,3 +9,5 @@ pub mod NextQueues
 pub mod QueueLists
 pub mod FilledQueues
 pub mod Exports
+pub mod FirstItems
+pub mod Hearing

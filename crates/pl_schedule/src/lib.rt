@@ -5,5 +5,7 @@
 
 pub use pl_world::{AttachmentPoint, Event, Item, Limits, QueueName, StepError};
 pub use world::World;
+pub use world::boot::{boot_manager, boot_switches};
+pub use world::coming::Coming;
 
 mod world;

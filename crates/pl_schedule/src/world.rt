@@ -178,7 +178,8 @@ impl<S: SwitchLogic, M: ManagerLogic, H: HostLogic> World<S, M, H> {
 }
 
 mod acts;
-mod boot;
+pub(crate) mod boot;
+pub(crate) mod coming;
 mod deliver;
 mod failures;
 mod happen;

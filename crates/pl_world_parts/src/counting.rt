@@ -24,6 +24,12 @@ impl WaitingToManager {
         WaitingToManager(told)
     }
 
+    pub fn told(&self) -> &ToManager
+        ensures { result.now ≡ self.now }
+    {
+        &self.0
+    }
+
     pub fn message(self) -> ToManager
         ensures { result ≡ self }
     {
@@ -59,6 +65,12 @@ impl WaitingToSwitch {
         ensures { result ≡ says }
     {
         WaitingToSwitch(says)
+    }
+
+    pub fn says(&self) -> &ToSwitch
+        ensures { result.now ≡ self.now }
+    {
+        &self.0
     }
 
     pub fn message(self) -> ToSwitch

@@ -7,7 +7,7 @@ pub use counting::{WaitingToManager, WaitingToSwitch};
 pub use host_call::HostCall;
 pub use incoming::Incoming;
 pub use links::{link_of, set_live};
-pub use one_step::{arrive_at, host_call_at, play_at};
+pub use one_step::{arrive_at, hear_at, host_call_at, play_at};
 pub use switches::Switches;
 pub use wiring_index::WiringIndex;
 pub use world_journal::WorldJournal;

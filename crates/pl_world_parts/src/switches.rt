@@ -1,5 +1,6 @@
 ghost use Rattle.std.specs.Prelude.{◌≡◌, ◌<◌, ◌≤◌, ◌*◌, ◌∷◌, ◌++◌, ℕ, [], cond, count_by, length, map, option_to_list, replicate, slice_get, slice_index_or, slice_set, sum_by, vec_len, IfOk, IfSome, MatchOption, OnErr, OnOk, Some};
 ghost use Rattle.std.specs.List.{AllByRecursion};
+ghost use Rattle.std.specs.Option.{option_copied};
 ghost use Rattle.pl_wiring.specs.Index.{port_index};
 ghost use Rattle.pl_node.specs.Accounting.{CanCome};
 ghost use Rattle.pl_node.specs.Gains.{Gains};
@@ -102,6 +103,17 @@ impl<S: SwitchLogic> Switches<S> {
     {
         let at = self.queue_index(s, port);
         self.out.queues().len_at(at)
+    }
+
+    /// The first item of the queue out of a port; none where it is empty.
+    pub fn first(&self, s: usize, port: u8) -> Option<&Item>
+        requires switch { s < length self.now.switches }
+        requires port { (v : SwitchView) → slice_get self.now.switches s ≡ Some v → port < v.k }
+        ensures first { option_copied result ≡ slice_get (items_at self.now.out (port_index self.now.k s port)) 0 }
+        ensures queues { HasQueues self.now }
+    {
+        let at = self.queue_index(s, port);
+        self.out.queues().first(at)
     }
 
     /// Puts an item behind the last of the queue out of a port.

@@ -2,14 +2,14 @@
 ghost use Rattle.std.specs.Prelude.{◌≡◌, ◌<◌, ◌≤◌, Some, None, Bool, true, false, option_map, drop, length, IfSome, OnSome, IfNone};
 ghost use Rattle.std.specs.List.{list_any, before_first, after_first};
 ghost use Rattle.std.specs.Option.{option_and_then, option_copied};
-ghost use Rattle.pl_inputs.specs.Words.{is_equals, is_among, given_by, beside, items_of, items_behind, value_in};
+ghost use Rattle.pl_inputs.specs.Words.{is_equals, is_among, given_by, beside, items_of, items_behind, value_if_given, value_in};
 ghost use Rattle.pl_inputs.specs.Met.{texts, given};
 
 /// The words behind a command, which takes items of these names.
 #[derive(Clone, Copy, Debug)]
-pub(crate) struct Items<'w, 'a> {
-    pub(crate) names: &'w [&'static str],
-    pub(crate) words: &'w [&'a str],
+pub struct Items<'w, 'a> {
+    pub names: &'w [&'static str],
+    pub words: &'w [&'a str],
 }
 
 // An item, and how many words it has.
@@ -23,8 +23,16 @@ struct Item<'a> {
 impl<'a> Items<'_, 'a> {
     /// The value of the one item with this name. None where it is not there or a second one is, and where
     /// the words are no items of the command.
-    pub(crate) fn value(&self, name: &str) -> Option<&'a str>
+    pub fn value(&self, name: &str) -> Option<&'a str>
         ensures { option_copied result ≡ option_and_then (value_in name.now)
+            (items_of (texts self.now.names.now) (texts self.now.words.now)) }
+    {
+        self.value_if_given(name)?
+    }
+
+    /// The same of an item that need not be there: `Some(None)` where it is not.
+    pub fn value_if_given(&self, name: &str) -> Option<Option<&'a str>>
+        ensures { option_map option_copied result ≡ option_and_then (value_if_given name.now)
             (items_of (texts self.now.names.now) (texts self.now.words.now)) }
     {
         let mut found = None;
@@ -39,7 +47,7 @@ impl<'a> Items<'_, 'a> {
             }
             at += item.words;
         }
-        found
+        Some(found)
     }
 }
 

@@ -55,7 +55,7 @@ impl Piece {
         }
     }
 
-    fn print_field<S: Shelf>(
+    pub fn print_field<S: Shelf>(
         &mut self,
         shelf: &mut S,
         name: &str,

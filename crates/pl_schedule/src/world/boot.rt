@@ -231,7 +231,8 @@ fn boot_with_queues<S: SwitchLogic>(alloc: Global, wiring: &Wiring) -> Result<Sw
     Switches::new(alloc, k, devices, out)
 }
 
-fn boot_switches<S: SwitchLogic>(alloc: Global, wiring: &Wiring) -> Result<Vec<S>, Memory>
+/// The switches of a wiring, as they begin.
+pub fn boot_switches<S: SwitchLogic>(alloc: Global, wiring: &Wiring) -> Result<Vec<S>, Memory>
     ensures { IfOk result (λ devices. map S.view devices.items ≡ map (λ id. switch_at_boot id wiring.now.k) wiring.now.ids) }
 {
     let mut devices = Vec::new(alloc);
@@ -250,7 +251,8 @@ fn boot_switch<S: SwitchLogic>(alloc: Global, wiring: &Wiring, s: SwitchNo) -> R
     S::boot(alloc, id, k)
 }
 
-fn boot_manager<M: ManagerLogic>(alloc: Global, wiring: &Wiring) -> Result<M, Memory>
+/// The manager, as it begins.
+pub fn boot_manager<M: ManagerLogic>(alloc: Global, wiring: &Wiring) -> Result<M, Memory>
     ensures { IfOk result (λ device. M.view device ≡ booted_manager wiring.now.k) }
 {
     let k = wiring.k();

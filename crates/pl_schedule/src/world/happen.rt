@@ -37,7 +37,7 @@ impl<S: SwitchLogic, M: ManagerLogic, H: HostLogic> World<S, M, H> {
         }
     }
 
-    fn peer(&self, s: SwitchNo, port: u8) -> Peer
+    pub(crate) fn peer(&self, s: SwitchNo, port: u8) -> Peer
         requires switch { s.0 < switch_count self.now.plan.k }
         requires port { port < self.now.plan.k }
         ensures is { result ≡ peer_of self.now.plan s.0 port }

@@ -1,6 +1,7 @@
-ghost use Rattle.std.specs.Prelude.{◌≡◌, ◌<◌, length, slice_get, Some, OnErr, OnOk, true};
+ghost use Rattle.std.specs.Prelude.{◌≡◌, ◌<◌, length, option_map, slice_get, IfSome, Some, OnErr, OnOk, true};
 ghost use Rattle.pl_wiring.specs.Labels.{switch_count};
-ghost use Rattle.pl_world.specs.Changes.{noted, out_of};
+ghost use Rattle.pl_world.specs.Changes.{host_at, noted, out_of};
+ghost use Rattle.pl_world.specs.Flying.{IsTreePort};
 ghost use Rattle.pl_world.specs.Ready.{CanStep};
 ghost use Rattle.pl_schedule.specs.Looks.{queue_len};
 ghost use Rattle.pl_world.specs.Pending.{pending};
@@ -13,6 +14,7 @@ use pl_journal::Entry;
 use pl_node::{HostLogic, ManagerLogic, SwitchLogic};
 use pl_wiring::{HostNo, SwitchNo};
 use pl_world::{AttachmentPoint, QueueName};
+use pl_world_parts::WiringIndex;
 
 impl<S: SwitchLogic, M: ManagerLogic, H: HostLogic> World<S, M, H> {
     /// How many items wait in a queue; none exactly where the wiring has no such queue.
@@ -103,15 +105,33 @@ impl<S: SwitchLogic, M: ManagerLogic, H: HostLogic> World<S, M, H> {
         &self.hosts[h.0 as usize]
     }
 
+    /// The wiring, with its switches by their ids.
+    pub fn wiring_index(&self) -> &WiringIndex
+        ensures { result.now ≡ self.now.plan }
+    {
+        &self.wiring_index
+    }
+
     /// Where a host stands; none exactly where the wiring has no such host.
     pub fn place_of_host(&self, h: HostNo) -> Option<AttachmentPoint>
-        ensures { result ≡ slice_get self.now.attachments h.0 }
+        ensures is { result ≡ slice_get self.now.attachments h.0 }
+        ensures at_port { IfSome result (λ at. IsTreePort self.now.plan.k at) }
     {
+        // One for each host.
+        let _ = &self.attachments;
         if self.has_host(h) {
-            Some(self.attachments.attachment_of(h))
+            Some(self.attachment_of(h))
         } else {
             None
         }
+    }
+
+    /// The host that stands at a port.
+    pub fn host_at(&self, s: SwitchNo, port: u8) -> Option<HostNo>
+        ensures is { option_map (λ h. h.0) result ≡ host_at self.now s.0 port }
+        ensures within { IfSome result (λ h. h.0 < length self.now.plan.hosts) }
+    {
+        self.attachments.host_at(s, port)
     }
 
     /// For how many ticks of its switch no frame of the host came there; none where it is not heard.

@@ -1,14 +1,14 @@
 use Rattle.std.proofs.Common.{rules, ◌≡◌, true, false, ap, ◌∙◌}
-use Rattle.std.specs.Option.{is_some, option_copied}
+use Rattle.std.specs.Option.{is_some, option_copied, option_map}
 use Rattle.std.specs.Str.{bytes_eq}
 use Rattle.pl_inputs.specs.Met.{given, texts}
 use Rattle.pl_inputs.proofs.ItemLemmas.{ends, ends_in_none, finds, finds_again, passes_by}
-use Rattle.pl_inputs.proofs.words.items.Items.value.Goals as goal
-use Rattle.pl_inputs.proofs.words.items.Items.value.Goals.{then-eq+else-is_some, else-eq}
+use Rattle.pl_inputs.proofs.words.items.Items.value_if_given.Goals as goal
+use Rattle.pl_inputs.proofs.words.items.Items.value_if_given.Goals.{then-eq+else-is_some, else-eq}
 
 pub returns-in_err-item : goal.returns-in_err-item
 returns-in_err-item c =
-    ap option_copied c.from_residual.ensures
+    ap (option_map option_copied) c.from_residual.ensures
     ∙ ends_in_none c.args.name.now (texts c.args.self.now.names.now) c.args.self.now.words.now c.loop-at.at c.loop-at.found _ c.loop-at.invariant
     c.loop-at-test.true c.in_err-item.ensures.none
 

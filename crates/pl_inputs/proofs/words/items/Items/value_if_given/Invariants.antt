@@ -3,7 +3,7 @@ use Rattle.std.specs.Option.{option_copied}
 use Rattle.pl_inputs.specs.Met.{texts}
 use Rattle.pl_inputs.specs.Words.{items_of}
 use Rattle.pl_inputs.proofs.ItemLemmas.{value_with}
-use Rattle.pl_inputs.proofs.words.items.Items.value.Given as goal
+use Rattle.pl_inputs.proofs.words.items.Items.value_if_given.Given as goal
 
 abbrev pub invariant-loop-at : goal.invariant-loop-at
 invariant-loop-at l =

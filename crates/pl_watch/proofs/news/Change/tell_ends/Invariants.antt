@@ -1,0 +1,9 @@
+use Rattle.std.proofs.Common.{map, take}
+use Rattle.std.specs.List.{flat_map}
+use Rattle.pl_watch.specs.News.{part_ends}
+use Rattle.pl_watch.specs.Telling.{Tells, node_in}
+use Rattle.pl_watch.proofs.news.Change.tell_ends.Given as goal
+
+abbrev pub invariant-loop-n : goal.invariant-loop-n
+invariant-loop-n g l =
+    Tells l.fn.page l.page l.fn.told l.told (flat_map (part_ends l.index (node_in l.fn.told) (g.S.SwitchFacts.view l.self.before.now) (g.S.SwitchFacts.view l.self.after.now)) (take l.n (map (λ part. part.0) (g.S.SwitchFacts.view l.self.before.now).parts)))

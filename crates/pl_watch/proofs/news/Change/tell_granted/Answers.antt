@@ -1,0 +1,21 @@
+use Rattle.std.proofs.Common.{◌≡◌, ◌∙◌, subst, arith}
+use Rattle.std.specs.List.{flat_map, range_with_len}
+use Rattle.pl_watch.specs.News.{granted_news}
+use Rattle.pl_watch.specs.Telling.{Tells, node_in}
+use Rattle.pl_watch.proofs.Learning.{tells_at}
+use Rattle.pl_watch.proofs.Telling.{tells_nothing}
+use Rattle.pl_watch.proofs.news.Change.tell_granted.Goals as goal
+
+pub loop-at-init : goal.loop-at-init
+loop-at-init g c = tells_nothing c.args.page.now c.args.told.now
+
+pub loop-at-preserved : goal.loop-at-preserved
+loop-at-preserved g c =
+    tells_at c.args.page.now c.loop-at.page c.tell_grant.new.page c.args.told.now c.loop-at.told c.tell_grant.new.told (λ node. granted_news node (g.S.SwitchFacts.view c.args.self.now.before.now) (g.S.SwitchFacts.view c.args.self.now.after.now))
+    c.loop-at.at c.loop-at.invariant c.tell_grant.ensures
+
+pub returns : goal.returns
+returns g c =
+    let past : c.loop-at.at ≡ c.k-at-end.result = omega arith in
+    subst (λ n. Tells c.args.page.now c.loop-at.page c.args.told.now c.loop-at.told (flat_map (granted_news (node_in c.args.told.now) (g.S.SwitchFacts.view c.args.self.now.before.now) (g.S.SwitchFacts.view c.args.self.now.after.now)) (range_with_len 0 n)))
+    (past ∙ c.k-at-end.ensures.known) c.loop-at.invariant

@@ -1,0 +1,8 @@
+use Rattle.std.specs.List.{flat_map, range_with_len}
+use Rattle.pl_watch.specs.News.{hold_news}
+use Rattle.pl_watch.specs.Telling.{Tells, node_in}
+use Rattle.pl_watch.proofs.news.Change.tell_holds.Given as goal
+
+abbrev pub invariant-loop-position : goal.invariant-loop-position
+invariant-loop-position g l =
+    Tells l.fn.page l.page l.fn.told l.told (flat_map (hold_news l.index (node_in l.fn.told) (g.S.SwitchFacts.view l.self.before.now) (g.S.SwitchFacts.view l.self.after.now)) (range_with_len 0 l.position))

@@ -325,12 +325,12 @@ fn knows<'a>(kind: Kind, words: Words<'a>) -> Row<'a>
 }
 
 // The port, who is there, its place, what it heard last itself, and whether the link is usable.
-fn port_words(index: &WiringIndex, me: SwitchId, at: u8, record: &PortRecord) -> Words<'static>
-    ensures { words_text result ≡ port_words index.now me at record.now }
+fn port_words(index: &WiringIndex, me: SwitchId, at: u8, port_record: &PortRecord) -> Words<'static>
+    ensures { words_text result ≡ port_words index.now me at port_record.now }
 {
-    match record.heard {
+    match port_record.heard {
         None => two(port(at), text("host")),
-        Some(neighbour) => neighbour_words(index, at, &neighbour, record.is_usable(me)),
+        Some(neighbour) => neighbour_words(index, at, &neighbour, port_record.is_usable(me)),
     }
 }
 

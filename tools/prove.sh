@@ -4,7 +4,7 @@
 
 # The crates below the program, each with those below it, the lowest first.
 crates_below() {
-    awk '
+    awk -v program="${crate##*/}" '
         { sub(/#.*/, "") }
         /:/ { name = $1; sub(/:.*/, "", name); below = $0; sub(/[^:]*:/, "", below); of[name] = below }
         function visit(name, n, i, parts) {
@@ -15,13 +15,13 @@ crates_below() {
             for (i = 1; i <= n; i++) if (parts[i] in of) line = line " " parts[i]
             print line
         }
-        END { visit("portland") }' "$top/crates.txt"
+        END { visit(program) }' "$top/crates.txt"
 }
 
 # prove_below LOG: proves the crates below the program, as many at a time as there are processors (or PORTLAND_JOBS).
 prove_below() {
     make_work
-    crates_below | grep -v '^portland ' >"$work/crates"
+    crates_below | grep -v "^${crate##*/} " >"$work/crates"
     many=$(wc -l <"$work/crates")
     jobs=${PORTLAND_JOBS:-$(nproc 2>/dev/null || echo 1)}
     mkdir "$work/done" "$work/running" "$work/failed"
@@ -91,7 +91,9 @@ prove() {
     tell "proves and builds the program itself"
     begin_ticking "proves portland"
     # rt builds a program by running it. Status 4, for the empty topology, is none that rt itself gives.
-    (cd "$crate" && rt run -- run --topology /dev/null --script /dev/null --captures . --out .) \
+    first=run
+    [ "${crate##*/}" = portland ] || first=
+    (cd "$crate" && rt run -- $first --topology /dev/null --script /dev/null --captures . --out .) \
         >>"$log" 2>&1 </dev/null
     status=$?
     stop_ticking

@@ -45,6 +45,7 @@ globalThis.Facts = (() => {
             ["stands", `${Fabric.LEVELS[s.level]} switch${pod}`],
             ...(Journal.isOfBridge(run) ? [] : knows),
             ["frames", ...flyingAt(run, state, { switch: number })],
+            ...Said.facts(run, state, number),
             ...s.ports.map((_, port) => [`port ${port}`, ...portOf(run, state, s, port)]),
         ];
     };

@@ -8,10 +8,10 @@ globalThis.Files = (() => {
     const kindOf = (name, bytes) => {
         if (/\.toml$/i.test(name)) return "topology";
         if (/^script(\.txt)?$/i.test(name)) return "script";
-        if (/^journal(\.txt)?$/i.test(name)) return "journal";
+        if (/^(journal|log)(\.txt)?$/i.test(name)) return "journal";
         if (/\.[a-z]+$/i.test(name) && !/\.txt$/i.test(name)) return null;
         const words = new TextDecoder().decode(bytes.subarray(0, 4096)).replace(/#.*/g, "").trim().split(/\s+/);
-        if (Journal.WORDS.includes(words[0])) return "journal";
+        if (Journal.WORDS.includes(words[0]) || words[0] === "@") return "journal";
         return COMMANDS.includes(words[0]) ? "script" : null;
     };
 

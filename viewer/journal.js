@@ -3,15 +3,21 @@
 // stay in the text and are read where they are shown. A line that is no entry's line, or names what is not there, is refused
 // with its number: a page that shows what a journal says must not guess what it might have said. A line that begins with another word
 // than those that are known is an entry of which nothing is known but its text; a file that begins with one is no journal.
+//
+// A log of `portland watch` is read by the same reader: it is a journal with the events among its entries. The line of an event,
+// `@ STEP ..`, is a row too, and the lines below it stay in the text, where Said reads them.
 globalThis.Journal = (() => {
     // the words that lines begin with; an entry's kind is the place of its word here
     const WORDS = ["line", "sent", "skipped", "made", "crossed", "redirected", "copied", "arrived", "taken", "dropped",
         "granted", "registered", "placed", "linkdown", "linkup", "moved", "settled", "unsettled", "freed", "restarted"];
-    const KIND = Object.fromEntries([...WORDS, "other"].map((word, kind) => [word, kind]));
+    const KIND = Object.fromEntries([...WORDS, "other", "event"].map((word, kind) => [word, kind]));
+    // what happens in an event: of each the parts of its line behind the word
+    const EVENTS = ["along", "tick", "enters", "leaves", "told", "says", "fail", "repair", "lose", "move", "start", "send", "raw", "retry", "join", "leave"];
+    const EVENT = Object.fromEntries(EVENTS.map((word, event) => [word, event]));
     const CAUSES = ["NotPlaced", "NoNextHop", "NoAddress", "HostGone", "LinkDown", "Lost", "Spent", "BadArp", "NoMember"];
     const SKIPS = ["CutRecord", "Short", "Long", "ForeignSource", "ControlType", "RecordedArp", "NoOwner", "HoldFull"];
 
-    const [BLANK, NEWLINE, DASH] = [32, 10, 45];
+    const [BLANK, NEWLINE, DASH, AT] = [32, 10, 45, 64];
     const LARGEST = 2 ** 31 - 1;
     const DECODER = new TextDecoder();
 
@@ -37,9 +43,11 @@ globalThis.Journal = (() => {
     };
 
     const countLines = bytes => {
-        let count = 0;
-        for (let at = bytes.indexOf(NEWLINE); at >= 0; at = bytes.indexOf(NEWLINE, at + 1)) count++;
-        return bytes.length > 0 && bytes[bytes.length - 1] !== NEWLINE ? count + 1 : count;
+        let count = bytes.length > 0 ? 1 : 0;
+        for (let at = bytes.indexOf(NEWLINE); at >= 0; at = bytes.indexOf(NEWLINE, at + 1)) {
+            if (at + 1 < bytes.length && bytes[at + 1] !== BLANK) count++;
+        }
+        return count;
     };
 
     // the words of one line after the other
@@ -59,6 +67,10 @@ globalThis.Journal = (() => {
         // The kind of the line that begins here. One that is not known is gone over to its end.
         word() {
             const { bytes, at } = this;
+            if (bytes[at] === AT) {
+                this.at++;
+                return KIND.event;
+            }
             let end = at;
             while (end < bytes.length && bytes[end] > BLANK) end++;
             const kind = end - at > 15 ? -1 : BY_KEY[keyOf(bytes[at], bytes[at + 2], end - at)];
@@ -71,6 +83,23 @@ globalThis.Journal = (() => {
             }
             this.at = isKnown ? end : this.endOfLine(end);
             return isKnown ? kind : KIND.other;
+        }
+
+        // goes over the lines below an event
+        below() {
+            while (this.bytes[this.at] === BLANK) {
+                this.at = this.endOfLine(this.at) + 1;
+                this.line++;
+            }
+        }
+
+        // whether the next word is a label of a switch, and not the name of a host
+        isSwitch(fabric) {
+            const from = this.at + 1;
+            let to = from;
+            while (to < this.bytes.length && this.bytes[to] > BLANK) to++;
+            const word = this.text(from, to);
+            return /^[eac][0-9]+\.[0-9]+$/.test(word) && !fabric.names.has(word);
         }
 
         endOfLine(from) {
@@ -314,6 +343,61 @@ globalThis.Journal = (() => {
         else run.at[n] = run.b[n];
     };
 
+    // Of an event `a` is the switch whose turn it is and `b` the other one, or the host; -1 is none. `c` is what happens.
+    const ofLink = (lines, run, n, event) => {
+        const from = lines.switch(run.fabric.k);
+        lines.part("a port", run.fabric.k - 1);
+        const isLink = lines.isSwitch(run.fabric);
+        const to = isLink ? lines.switch(run.fabric.k) : lines.next();
+        if (isLink) lines.part("a port", run.fabric.k - 1);
+        const host = isLink || to === "-" ? -1 : run.fabric.names.get(to);
+        if (host === undefined) lines.refuse(`the topology has no host \`${to}\``);
+        run.c[n] = isLink ? event : event === EVENT.along ? EVENT.leaves : event;
+        [run.a[n], run.b[n]] = isLink && event === EVENT.along ? [to, from] : [from, isLink ? to : host];
+    };
+
+    const ofDelivery = (lines, run, n) => {
+        const { at } = lines;
+        if (lines.isSwitch(run.fabric)) {
+            const from = lines.switch(run.fabric.k);
+            if (lines.bytes[lines.at + 1] === 109) {
+                if (lines.next() !== "manager") lines.refuse("a word is none");
+                [run.a[n], run.b[n], run.c[n]] = [from, -1, EVENT.told];
+                return;
+            }
+            lines.at = at;
+            ofLink(lines, run, n, EVENT.along);
+            return;
+        }
+        const name = lines.next();
+        const host = name === "manager" ? -1 : run.fabric.names.get(name);
+        if (host === undefined) lines.refuse(`the topology has no host \`${name}\``);
+        const to = lines.switch(run.fabric.k);
+        if (host >= 0) lines.part("a port", run.fabric.k - 1);
+        [run.a[n], run.b[n], run.c[n]] = [to, host, host < 0 ? EVENT.says : EVENT.enters];
+    };
+
+    const ofEvent = (lines, run, n) => {
+        lines.number("the number of a step", Number.MAX_SAFE_INTEGER);
+        const verb = lines.next();
+        const event = verb === "deliver" ? EVENT.along : EVENTS.indexOf(verb);
+        if (event < 0) lines.refuse(`\`${verb}\` is no event`);
+        [run.a[n], run.b[n], run.c[n]] = [-1, -1, event];
+        if (verb === "deliver") ofDelivery(lines, run, n);
+        else if (verb === "lose") ofLink(lines, run, n, event);
+        else if (verb === "tick") run.a[n] = lines.switch(run.fabric.k);
+        else if (verb === "fail" || verb === "repair") {
+            run.a[n] = lines.switch(run.fabric.k);
+            run.b[n] = lines.switch(run.fabric.k);
+        } else {
+            run.b[n] = lines.host(run.fabric);
+            if (verb === "move") {
+                run.a[n] = lines.switch(run.fabric.k);
+                lines.part("a port", run.fabric.k - 1);
+            } else if (verb === "join" || verb === "leave") lines.next();
+        }
+    };
+
     const entry = (lines, run, n, last) => {
         const kind = lines.word();
         run.kind[n] = kind;
@@ -331,6 +415,7 @@ globalThis.Journal = (() => {
         else if (kind === KIND.linkdown || kind === KIND.linkup) joined(lines, run, n);
         else if (kind === KIND.moved) moved(lines, run, n);
         else if (kind === KIND.freed) free(lines, run, n);
+        else if (kind === KIND.event) ofEvent(lines, run, n);
         else if (kind === KIND.restarted) restart(lines, run, n);
         else if (kind !== KIND.other) {
             run.a[n] = lines.number("a number");
@@ -344,10 +429,11 @@ globalThis.Journal = (() => {
         const last = [-1];
         let n = 0;
         for (; lines.at < bytes.length; n++) {
-            lines.line = n + 1;
+            lines.line++;
             run.start[n] = lines.at;
             entry(lines, run, n, last);
             lines.end();
+            if (run.kind[n] === KIND.event) lines.below();
         }
         run.start[n] = lines.at;
         run.count = n;
@@ -411,7 +497,7 @@ globalThis.Journal = (() => {
     const isLeftOut = (run, n) => isOfBridge(run) && (run.scriptLines.length === 0 || n < run.scriptLines[0]);
 
     return {
-        WORDS, KIND, CAUSES, SKIPS, read, text, frame, hasFrame, frameOf, beginning, ofLine, unpackPlace,
+        WORDS, KIND, EVENTS, EVENT, CAUSES, SKIPS, read, text, frame, hasFrame, frameOf, beginning, ofLine, unpackPlace,
         grantAt, isFreed, registrationAt, isOfBridge, isLeftOut,
     };
 })();

@@ -411,6 +411,9 @@ globalThis.Page = (() => {
         picture.draw();
     };
 
+    const UNSEEN = $("unseen").textContent;
+    const LOGGED = "In a log each step of the fabric is an entry: a control frame is drawn where it is heard, and the manager's words are told.";
+
     const show = (opened, name) => {
         if (page.playing) stop();
         Object.assign(page, opened, { state: At.at(opened.states, 0), subject: null, story: null, known: null });
@@ -423,6 +426,7 @@ globalThis.Page = (() => {
         $("slider").max = $("entry").max = page.run.count;
         $("opened").textContent = `${name ? `${name}: ` : ""}${nameOf(page.run)}`;
         $("tab-script").hidden = !page.script;
+        $("unseen").textContent = Said.isLog(page.run) ? LOGGED : UNSEEN;
         $("filter").value = "";
         drawnAt(page.run.count); // so that its texts are measured before a step is waited for
         picture.set(page.state, Scene.of(page.run, page.state, null));

@@ -40,6 +40,7 @@ globalThis.Scene = (() => {
             case KIND.linkdown: return Journal.isLeftOut(run, n) ? "left out" : "\u2715 link fails";
             case KIND.linkup: return "link repaired";
             case KIND.freed: return "address freed";
+            case KIND.event: return Said.note(run, n);
             default: return "";
         }
     };
@@ -53,6 +54,7 @@ globalThis.Scene = (() => {
         if (kind === KIND.registered) return { host: run.addresses[run.a[n]].host };
         if (kind === KIND.freed) return { switch: run.addresses[run.a[n]].edge };
         if (kind === KIND.placed) return { switch: run.a[n] };
+        if (kind === KIND.event) return run.a[n] >= 0 ? { switch: run.a[n] } : { host: run.b[n] };
         return kind === KIND.linkdown || kind === KIND.linkup ? { link: run.a[n] } : null;
     };
 
@@ -61,9 +63,11 @@ globalThis.Scene = (() => {
         const place = placeOf(run, n);
         const frame = Journal.frameOf(run, n);
         const before = run.before[n];
-        const last = frame > 0 && before >= 0 ? At.where(run, before) : null;
+        const said = run.kind[n] === KIND.event ? Said.from(run, n) : null;
+        const last = said || (frame > 0 && before >= 0 ? At.where(run, before) : null);
         const from = last && !samePlace(last, place) && isJoined(run, last, place) ? last : null;
-        return { entry: n, frame, place, from, note: noteOf(run, n) };
+        const control = said && from ? Said.carried(run, n) : "";
+        return { entry: n, frame, place, from, note: control ? "" : noteOf(run, n), control };
     };
 
     // The frames that are flying, by the place of their newest entry: a switch's number, or a port for hosts as a number below 0.

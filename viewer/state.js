@@ -20,7 +20,7 @@ globalThis.At = (() => {
             crossings: new Int32Array(fabric.switches.length), // how many frames each switch received
             carried: new Int32Array(fabric.links.length), // how many frames came over each link
             flying: new Map(), // frames that have begun and not ended, each with its newest entry
-            counts: new Int32Array(Journal.WORDS.length + 1), // of entries, by their kind
+            counts: new Int32Array(Journal.WORDS.length + 2), // of entries, by their kind
             causes: new Int32Array(Journal.CAUSES.length),
         };
     };

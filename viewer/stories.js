@@ -51,6 +51,7 @@ globalThis.Stories = (() => {
             case KIND.linkup: return run.b[n] === number || run.c[n] === number;
             case KIND.moved: return run.b[n] === number;
             case KIND.freed: return run.addresses[run.a[n]].edge === number;
+            case KIND.event: return run.a[n] === number;
             default: return false;
         }
     });

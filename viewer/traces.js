@@ -67,6 +67,16 @@ globalThis.Traces = (() => {
         frameLabel(p, `${focus}`, x - to.width * 0.3, y - to.height / 2 - 6, true);
     };
 
+    // the control frame that comes over a link in the event of now
+    const controlOfNow = p => {
+        const { now } = p.scene;
+        if (!now || !now.control || !now.from) return;
+        const [from, to] = [p.spotOf(now.from), p.spotOf(now.place)];
+        p.pen.arrow(from, to, p.colour.now);
+        const [x, y] = [from.x + (to.x - from.x) * p.progress, from.y + (to.y - from.y) * p.progress];
+        frameLabel(p, now.control, x, y - to.height / 2 - 6, true);
+    };
+
     // how far down a note stands that would stand here, so that it covers no name
     const clearOf = (p, text, x, y) => {
         const width = 8 * text.length + 10;
@@ -99,6 +109,7 @@ globalThis.Traces = (() => {
         way(p);
         flying(p);
         frameOfNow(p);
+        controlOfNow(p);
         noteOfNow(p);
         touched(p);
     };

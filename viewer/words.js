@@ -282,7 +282,10 @@ globalThis.Words = (() => {
     const other = (run, n) => `A line of a kind that this page does not know, of which it draws nothing: \`${Journal.text(run, n, 90)}\`.`;
 
     // what entry n means; `script` are the lines of the script, or null
-    const sentence = (run, n, script = null) => (run.kind[n] === KIND.other ? other(run, n) : SENTENCES[Journal.WORDS[run.kind[n]]](run, n, script));
+    const sentence = (run, n, script = null) => {
+        if (run.kind[n] === KIND.event) return Said.sentence(run, n);
+        return run.kind[n] === KIND.other ? other(run, n) : SENTENCES[Journal.WORDS[run.kind[n]]](run, n, script);
+    };
 
     // A header as rows of a name, a value, and what the value means once n entries have happened.
     const header = (run, frame, n) => {

@@ -26,6 +26,23 @@ const a_run_is_opened_and_stepped_through = async browser => {
     await picture(browser, "four-hosts");
 };
 
+// The logs of two examples: a vote that is refused, and what a switch is to avoid.
+const LOGS = [["position-vote", "@ 30 ", "e0.1"], ["avoid-lists", "@ 1026 ", "a1.0"]];
+
+const a_log_is_opened = async browser => {
+    for (const [name, step, story] of LOGS) {
+        const folder = path.join(top, "examples", name);
+        const [topology, log, script] = ["topology.toml", "expected-watch/log.txt", "script"].map(file => path.join(folder, file));
+        const { run } = Files.runOf({ topology: fs.readFileSync(topology), journal: new Uint8Array(fs.readFileSync(log)) });
+        const entry = Array.from({ length: run.count }, (_, n) => n).find(n => Journal.text(run, n).startsWith(step)) + 1;
+        await browser.open(PAGE, `#entry=${entry}&story=${story}`);
+        await browser.choose([topology, log, script]);
+        await browser.until(isOpen(run.count));
+        assert.equal(await browser.text("said"), Words.sentence(run, entry - 1));
+        await picture(browser, name);
+    }
+};
+
 const a_packed_run_plays_to_its_end = async browser => {
     const run = await packed(browser, "examples/host-moves-twice");
     assert((await browser.text("opened")).startsWith("host-moves-twice: k 4, 20 switches, 4 hosts, "));
@@ -178,6 +195,7 @@ const the_dark_page_works_too = async browser => {
 };
 
 module.exports = {
+    a_log_is_opened,
     a_run_is_opened_and_stepped_through, a_packed_run_plays_to_its_end, a_folder_is_dropped, a_folder_is_opened,
     a_frame_is_followed, a_click_shows_a_story, lines_of_the_script_are_gone_to, what_is_refused_is_told_with_its_line,
     each_example_opens_and_ends_as_its_summary_says, a_million_lines_open_within_five_seconds_and_are_stepped_at_once, the_dark_page_works_too,

@@ -28,6 +28,10 @@ impl ManagerLogic for QuietManager {
         })
     }
 
+    fn restart(&mut self, alloc: Global, epoch: u32) -> Result<(), Memory> {
+        self.untold.restart(alloc, epoch)
+    }
+
     fn hears(
         &mut self,
         _switch: SwitchId,
@@ -35,6 +39,14 @@ impl ManagerLogic for QuietManager {
         _out: &mut ManagerOutbox,
     ) -> Result<(), Memory> {
         Ok(())
+    }
+
+    fn epoch(&self) -> u32 {
+        self.untold.epoch()
+    }
+
+    fn reported(&self) -> usize {
+        self.untold.reported()
     }
 
     fn lookup(&self, ip: Ip4) -> Option<Pmac> {

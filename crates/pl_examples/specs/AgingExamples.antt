@@ -116,7 +116,7 @@ abbrev elsewhere : ℕ → Pmac
 elsewhere vmid = record { pod = 1; position = 0; port = 0; vmid = vmid }
 
 abbrev nothing : Learnt
-nothing = record { addresses = []; owners = []; count = 0 }
+nothing = record { addresses = []; reported = []; owners = []; count = 0 }
 
 -- a host that moved from the first edge switch to the second
 abbrev moved : Learnt

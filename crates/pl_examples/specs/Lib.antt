@@ -16,6 +16,7 @@ pub mod HostExamples
 pub mod GatheringExamples
 pub mod ReportExamples
 pub mod ManagerExamples
+pub mod EpochExamples
 pub mod WorldExamples
 pub mod PendingExamples
 pub mod QueueExamples

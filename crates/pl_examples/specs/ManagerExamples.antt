@@ -282,6 +282,7 @@ the_ip_of_the_newest_address :
             recall = Some (record { new = its_second; number = 2 });
             aged = false;
           } ∷ [];
+      reported = [];
       owners = (its_ip, the_host) ∷ [];
       count = 2;
     }

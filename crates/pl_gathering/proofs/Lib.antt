@@ -1,5 +1,6 @@
 pub mod Going
 pub mod Acting
+pub mod Exports
 pub mod Hearing
 pub mod Phases
 pub mod Resting

@@ -112,7 +112,7 @@ more_below n addresses all = all_weaker (λ b. b.number ≤ n) (λ b. b.number �
 learnt_in_order : (k : ℕ) (words : List Word) (new : ToldAddress) → AreInOrder (known k words).learnt → AreInOrder (with_learnt (known k words).learnt new)
 learnt_in_order k words new all = by (is_registered (known k words).learnt.addresses new.pmac)
   where
-    by : (b : Bool) → AreInOrder (record {
+    by : (b : Bool) → AreInOrder (record (known k words).learnt {
       addresses = cond b (map (told_again new) (known k words).learnt.addresses)
           (learnt_as ((known k words).learnt.count + 1) new
           ∷ recalled (newest (known k words).learnt new.amac) new.pmac ((known k words).learnt.count + 1) (known k words).learnt.addresses);

@@ -91,6 +91,7 @@ moved_away_and_back mac ip = record {
         aged = false;
       }
       ∷ [];
+  reported = [];
   owners = (ip, mac) ∷ [];
   count = 2;
 }

@@ -6,7 +6,7 @@ ghost use Rattle.pl_inputs.specs.declared.words.Network.TheVariants.{Bridges as 
 ghost use Rattle.pl_bridge_rule.specs.BridgeRule.{Bridges};
 ghost use Rattle.pl_bridge_rule.specs.QuietManager.{IsQuiet};
 ghost use Rattle.pl_host_rule.specs.HostRule.{host_rule};
-ghost use Rattle.pl_manager_rule.specs.ManagerRule.{manager_rule};
+ghost use Rattle.pl_manager_rule.specs.WholeRule.{whole_rule};
 ghost use Rattle.pl_switch_rule.specs.SwitchRule.{Exact};
 ghost use Rattle.pl_world.specs.declared.limits.Limits.{Limits};
 ghost use Rattle.pl_law_runs.specs.NoChoice.{LeavesHostNoChoice, LeavesManagerNoChoice, LeavesSwitchNoChoice};
@@ -31,7 +31,7 @@ pub fn a_script_goes_one_way<S: SwitchLogic, M: ManagerLogic, H: HostLogic>()
 /// limits, the captures' records and the script determine all that a run comes to.
 pub fn one_script_one_end()
     ensures { (plan : Plan) (limits : Limits) (records : List (List Recorded)) (lines : List ScriptLine) (end other : Option (ℕ × Stop)) (scene another : Scene) →
-        Plays Exact manager_rule host_rule plan limits records lines end scene → Plays Exact manager_rule host_rule plan limits records lines other another →
+        Plays Exact whole_rule host_rule plan limits records lines end scene → Plays Exact whole_rule host_rule plan limits records lines other another →
         (end ≡ other) × (scene ≡ another) }
 {}
 

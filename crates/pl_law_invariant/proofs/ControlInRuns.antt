@@ -29,7 +29,7 @@ use Rattle.pl_law_addresses.proofs.Exports.{boots_in_order, InOrder, mark_quiet,
 use Rattle.pl_law_addresses.specs.InOrder.{AddressesAreInOrder}
 use Rattle.pl_law_invariant.specs.ControlInvariant.{ControlInvariant}
 use Rattle.pl_law_invariant.proofs.KeepingControl.{step_keeps_all}
-use Rattle.pl_law_invariant.proofs.LawfulRuns.{run_lawful}
+use Rattle.pl_law_invariant.proofs.LawfulRuns.{first_at_first, run_lawful}
 
 -- ---- the beginning
 pub kept_at_first : (plan : Plan) (limits : Limits) → CanBegin plan → ControlInvariant (booted plan limits)
@@ -42,6 +42,7 @@ kept_at_first plan limits can =
       voting = votes_at_first plan limits;
       given = given_at_first plan limits;
       addresses = record { addressed = order.addressed; own = order.own; once = order.once };
+      first = first_at_first plan limits;
     }
 
 -- ---- a mark grants nothing
@@ -66,6 +67,7 @@ mark_keeps w e is before = record {
   voting = before.voting;
   given = before.given;
   addresses = mark_in_order w e is before.addresses;
+  first = before.first;
 }
 
 -- ---- a run
@@ -89,4 +91,4 @@ module _ (host : HostRule) (sends : HostsSendData host) (owns : HostsSendOwn hos
   pub lawful_run_keeps : (switch : SwitchRule) (manager : ManagerRule) → AllowsNoMore switch Loose → IsManagerRule manager →
       (old : WorldView) (moments : List Moment) (new : WorldView) → ControlInvariant old → WorldRun switch manager host old moments new → ControlInvariant new
   lawful_run_keeps switch manager within lawful old moments new before run =
-      run_keeps old moments new before (run_lawful switch manager host within lawful old moments new run)
+      run_keeps old moments new before (run_lawful switch manager host within lawful old moments new before.first run)

@@ -4,6 +4,7 @@ use Rattle.pl_wiring.specs.Plan.{Plan}
 use Rattle.pl_node.specs.HostDuties.{HostsSendData, HostsSendOwn}
 use Rattle.pl_node.specs.HostInputs.{HostRule}
 use Rattle.pl_manager_rule.specs.ManagerRule.{manager_rule}
+use Rattle.pl_manager_rule.specs.WholeRule.{IsFirst}
 use Rattle.pl_switch_rule.specs.SwitchRule.{Loose}
 use Rattle.pl_switch_rule.proofs.Exports.{loose_steps_are_accounted}
 use Rattle.pl_world.specs.declared.event.Event.{Event}
@@ -29,6 +30,7 @@ use Rattle.pl_law_addresses.specs.InOrder.{AddressesAreInOrder}
 use Rattle.pl_law_addresses.proofs.Exports.{one_step, run_in_order}
 use Rattle.pl_law_invariant.specs.ControlInvariant.{ControlInvariant}
 use Rattle.pl_law_invariant.proofs.Grounding.{grounded}
+use Rattle.pl_law_invariant.proofs.LawfulRuns.{first_at_first, rule_first, step_first}
 use Rattle.pl_law_invariant.proofs.TellingPlaces.{can_tell}
 
 -- what is kept of discovery
@@ -78,14 +80,15 @@ module _ (host : HostRule) (sends : HostsSendData host) where
   runs_are_grounded plan limits can moments w run =
       let found = discovery_in_run plan limits moments w can run in grounds w found.0 found.1
 
-  kept : (w : WorldView) → IsCounted w → Holds w → AddressesAreInOrder w → ControlInvariant w
-  kept w counted holds order = record {
+  kept : (w : WorldView) → IsCounted w → Holds w → AddressesAreInOrder w → IsFirst w.manager → ControlInvariant w
+  kept w counted holds order first = record {
     counted = counted;
     hosts = holds.hosts;
     placed = holds.placed;
     voting = holds.voting;
     given = holds.given;
     addresses = order;
+    first = first;
   }
 
   module _ (owns : HostsSendOwn host) where
@@ -97,6 +100,7 @@ module _ (host : HostRule) (sends : HostsSendData host) where
         let holds = step_holds old event new before.counted held none step in
         kept new counted holds
         (one_step host sends owns old event new before.counted (grounds old before.counted held) (grounds new counted holds).apart step before.addresses)
+        (step_first Loose host old event new before.first step)
 
     pub run_keeps_all : (plan : Plan) (limits : Limits) (moments : List Moment) (new : WorldView) → CanBegin plan →
         WorldRun Loose manager_rule host (booted plan limits) moments new → ControlInvariant new
@@ -104,3 +108,4 @@ module _ (host : HostRule) (sends : HostsSendData host) where
         let found = discovery_in_run plan limits moments new can run in
         let order = run_in_order host sends owns plan limits can (runs_are_grounded plan limits can) moments new run in
         kept new found.0 found.1 (record { addressed = order.addressed; own = order.own; once = order.once })
+        (rule_first Loose host (booted plan limits) moments new (first_at_first plan limits) run)

@@ -5,6 +5,7 @@ use Rattle.pl_law_places.specs.Places.{ArePlaced}
 use Rattle.pl_law_votes.specs.Voting.{AreVoting}
 use Rattle.pl_law_pods.specs.Pods.{ArePodsGiven}
 use Rattle.pl_law_addresses.specs.InOrder.{AddressesAreInOrder}
+use Rattle.pl_manager_rule.specs.WholeRule.{IsFirst}
 use Rattle.pl_world.specs.Flying.{IsCounted}
 use Rattle.pl_world.specs.Worlds.{WorldView}
 
@@ -21,3 +22,5 @@ pub record ControlInvariant (w : WorldView) : Type 0 where
   pub given : ArePodsGiven (control_plane w)
   -- addresses are in order: of grants, traps and registrations, and none is granted again before it was freed
   pub addresses : AddressesAreInOrder w
+  -- the manager never began anew
+  pub first : IsFirst w.manager

@@ -27,7 +27,7 @@ at_port port = record { pod = 0; position = 0; port = port; vmid = 1 }
 
 -- of the first address
 abbrev tenure : Option AddressUse → List ToManager → List ToSwitch → List LearntAddress → ℕ → Tenure
-tenure held up down addresses count = let learnt : Learnt = record { addresses = addresses; owners = []; count = count } in record {
+tenure held up down addresses count = let learnt : Learnt = record { addresses = addresses; reported = []; owners = []; count = count } in record {
   held = held;
   up = words_of (at_port 0) up;
   down = orders_of (at_port 0) down;

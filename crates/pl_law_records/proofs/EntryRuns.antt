@@ -1,13 +1,14 @@
 -- What follows for one step, and for runs.
-use Rattle.std.proofs.Common.{◌≡◌, ℕ, zero, suc, ◌+◌, ◌≤◌, ◌==◌, Bool, true, false, if◌then◌else◌, cond, List, [], ◌∷◌, ◌++◌, length, map, reverse, drop, set, slice_get, Option, Some, None, refl, sym, ap, ◌∙◌, subst, arith, append-nil, append_assoc, eq-eqb, ne_eqb, inl, inr, ◌⊎◌}
-use Rattle.std.specs.List.{AllByRecursion, cons_option, filter_map, find, range_with_len}
+use Rattle.std.proofs.Common.{◌≡◌, ℕ, zero, suc, ◌+◌, ◌==◌, Bool, true, false, if◌then◌else◌, cond, List, [], ◌∷◌, ◌++◌, length, map, reverse, drop, set, slice_get, Option, Some, None, refl, sym, ap, ◌∙◌, subst, arith, append-nil, append_assoc, eq-eqb, ne_eqb, inl, inr, ◌⊎◌}
+use Rattle.std.specs.Option.{option_or}
+use Rattle.std.specs.List.{cons_option, filter_map, find, range_with_len}
 use Rattle.std.proofs.Math.Seq.{drop-append_seam}
 use Rattle.std.specs.Prelude.{Contains}
 use Rattle.std.proofs.lemmas.Bool.{false≢true}
 use Rattle.std.proofs.lemmas.Option.{none-some, same_Some}
-use Rattle.std.proofs.lemmas.List.{length-append, length_push, map-append, reverse-append}
+use Rattle.std.proofs.lemmas.List.{length-append, map-append, reverse-append}
 use Rattle.std.proofs.lemmas.List.Elements.{filter_map-append}
-use Rattle.pl_lemmas.proofs.Exports.{range_more}
+use Rattle.pl_lemmas.proofs.Exports.{range_parts}
 use Rattle.pl_frame.specs.declared.address.SwitchId.{SwitchId}
 use Rattle.pl_pmac.specs.declared.pmac.Pmac.{Pmac}
 use Rattle.pl_layouts.specs.declared.place.Place.{Place}
@@ -18,9 +19,9 @@ use Rattle.pl_wiring.specs.Plan.{Plan}
 use Rattle.pl_journal.specs.declared.entry.Entry.{Entry}
 use Rattle.pl_journal.specs.declared.entry.Entry.TheVariants.{Arrived, Copied, Crossed, Dropped, Freed, Granted, Line, LinkDown, LinkUp, Made, Moved, Placed, Redirected, Registered, Restarted, Sent, Settled, Skipped, Taken, Unsettled}
 use Rattle.pl_node.specs.HostInputs.{HostRule}
-use Rattle.pl_node.proofs.Exports.{among_of_Contains, Contains-of_among, nothing_numbered}
+use Rattle.pl_node.proofs.Exports.{IsAmong, among_append, among_left, among_of_Contains, among_right, Contains-of_among, nothing_numbered}
 use Rattle.pl_node.specs.ManagerDuties.{AnswersDuly, AreNumbered, ManagerRule, numbered_by, with_number}
-use Rattle.pl_node.specs.ManagerViews.{Learnt, Registration, registration, registry}
+use Rattle.pl_node.specs.ManagerViews.{Learnt, ManagerView, Registration, registration, registry}
 use Rattle.pl_node.specs.SwitchFacts.{switch_at_boot}
 use Rattle.pl_node.specs.SwitchInputs.{SwitchRule}
 use Rattle.pl_node.specs.SwitchViews.{SwitchView}
@@ -71,35 +72,21 @@ module _ (switch : SwitchRule) (manager : ManagerRule) (host : HostRule) (old : 
       by (Managed id told after acts ruled is adds switches) =
           ap placings (entries_written old new [] _ adds) ∙ adds.of_places ∙ sym (ap (new_places 0 old.switches) switches ∙ none_new 0 old.switches)
 
-  pub registrations_written : AnswersDuly manager → AreNumbered old.manager.learnt new.manager.learnt (registrations (written old new))
+  pub registrations_written : AnswersDuly manager → AreNumbered old.manager new.manager (registrations (written old new))
   registrations_written duly = by (outcome manager switch host old happens new step)
     where
-      none : (registered : List (Pmac × ℕ)) → registered ≡ [] → new.manager ≡ old.manager → AreNumbered old.manager.learnt new.manager.learnt registered
+      none : (registered : List (Pmac × ℕ)) → registered ≡ [] → new.manager ≡ old.manager → AreNumbered old.manager new.manager registered
       none registered is same =
-          subst (AreNumbered old.manager.learnt new.manager.learnt) (sym is)
-          (subst (λ m. AreNumbered old.manager.learnt m.learnt []) (sym same) (nothing_numbered old.manager.learnt))
+          subst (AreNumbered old.manager new.manager) (sym is)
+          (subst (λ m. AreNumbered old.manager m []) (sym same) (nothing_numbered old.manager))
 
-      by : Outcome manager old new → AreNumbered old.manager.learnt new.manager.learnt (registrations (written old new))
+      by : Outcome manager old new → AreNumbered old.manager new.manager (registrations (written old new))
       by (Neither q) = none (registrations (written old new)) (ap registrations (entries_written old new [] [] q.adds) ∙ q.adds.of_registrations) q.manager
       by (Turned s before after found switches adds stays) =
           none (registrations (written old new)) (ap registrations (entries_written old new _ [] adds) ∙ adds.of_registrations) stays
       by (Managed id told after acts ruled is adds switches) =
-          subst (AreNumbered old.manager.learnt new.manager.learnt) (sym (ap registrations (entries_written old new [] _ adds) ∙ adds.of_registrations))
-          (subst (λ m. AreNumbered old.manager.learnt m.learnt (filter_map numbered_by acts)) (sym is) (duly.numbered old.manager id told after acts ruled))
-
-  -- in one step there is no more than one
-  pub one_registered : AnswersDuly manager → length (registrations (written old new)) ≤ 1
-  one_registered duly = by (outcome manager switch host old happens new step)
-    where
-      by : Outcome manager old new → length (registrations (written old new)) ≤ 1
-      by (Neither q) = let none = ap (λ rs. length rs) (ap registrations (entries_written old new [] [] q.adds) ∙ q.adds.of_registrations) in omega (arith, none)
-      by (Turned s before after found switches adds stays) =
-          let none = ap (λ rs. length rs) (ap registrations (entries_written old new _ [] adds) ∙ adds.of_registrations) in omega (arith, none)
-      by (Managed id told after acts ruled is adds switches) =
-          let here = ap (λ rs. length rs) (ap registrations (entries_written old new [] _ adds) ∙ adds.of_registrations) in
-          let more = (duly.grows old.manager id told after acts ruled).addresses in
-          let count = (duly.numbered old.manager id told after acts ruled).count in
-          omega (arith, here, more, count)
+          subst (AreNumbered old.manager new.manager) (sym (ap registrations (entries_written old new [] _ adds) ∙ adds.of_registrations))
+          (subst (λ m. AreNumbered old.manager m (filter_map numbered_by acts)) (sym is) (duly.numbered old.manager id told after acts ruled))
 
   pub journal_grows : new.journal ≡ old.journal ++ written old new
   journal_grows = by (outcome manager switch host old happens new step)
@@ -255,17 +242,14 @@ pub record AreRegistered (registered : List (Pmac × ℕ)) (learnt : Learnt) : T
 abbrev pub HasRegistered : WorldView → Type 0
 HasRegistered w = AreRegistered (registrations w.journal) w.manager.learnt
 
--- one more has the next number
-numbers_more : (rs more : List (Pmac × ℕ)) (n : ℕ) → length more ≤ 1 → AllByRecursion (λ (r : Pmac × ℕ). r.1 ≡ n) more → n ≡ length more + length rs →
+-- those that are given numbers have the next ones
+numbers_more : (rs more : List (Pmac × ℕ)) (n : ℕ) → n ≡ length rs → map (λ (r : Pmac × ℕ). r.1) more ≡ range_with_len (n + 1) (length more) →
     map (λ (r : Pmac × ℕ). r.1) rs ≡ range_with_len 1 (length rs) → map (λ (r : Pmac × ℕ). r.1) (rs ++ more) ≡ range_with_len 1 (length (rs ++ more))
-numbers_more rs [] n few next is before =
-    subst (λ (xs : List (Pmac × ℕ)). map (λ (r : Pmac × ℕ). r.1) xs ≡ range_with_len 1 (length xs)) (sym (append-nil rs)) before
-numbers_more rs (x ∷ []) n few next is before =
-    let number : x.1 ≡ 1 + length rs = next.0 ∙ is in
-    let long : length (rs ++ x ∷ []) ≡ suc (length rs) = let more = length_push rs x in omega (arith, more) in
-    map-append (λ (r : Pmac × ℕ). r.1) rs (x ∷ []) ∙ ap (λ ns. ns ++ x.1 ∷ []) before
-    ∙ ap (λ m. range_with_len 1 (length rs) ++ m ∷ []) number ∙ sym (range_more 1 (length rs)) ∙ ap (range_with_len 1) (sym long)
-numbers_more rs (x ∷ y ∷ more) n few next is before = absurd (omega (arith, few))
+numbers_more rs more n is next before =
+    let long = length-append rs more in
+    map-append (λ (r : Pmac × ℕ). r.1) rs more ∙ ap (λ ns. ns ++ map (λ (r : Pmac × ℕ). r.1) more) before
+    ∙ ap (λ ns. range_with_len 1 (length rs) ++ ns) next
+    ∙ sym (range_parts 1 (length rs) (length more) (length (rs ++ more)) (n + 1) (omega (arith, long)) (omega (arith, is)))
 
 found_passes : {X : Type 0} (test : X → Bool) (xs : List X) (x : X) → find test xs ≡ Some x → test x ≡ true
 found_passes test [] x found = absurd (none-some x found)
@@ -275,54 +259,79 @@ found_passes test (y ∷ xs) x found = by (λ at. found_passes test xs x at) (te
     by behind true passes at = ap test (sym (same_Some y x at)) ∙ passes
     by behind false fails at = behind at
 
--- those that are given numbers in a step have the next one
-next_given : (before after : Learnt) (more : List (Pmac × ℕ)) → length more ≤ 1 → AreNumbered before after more → AllByRecursion (λ (r : Pmac × ℕ). r.1 ≡ after.count) more
-next_given before after [] few given = tt
-next_given before after (g ∷ []) few given = ((given.numbers g.0 g.1 (Contains-of_among g (g ∷ []) (inl refl))).1, tt)
-next_given before after (x ∷ y ∷ more) few given = absurd (omega (arith, few))
+module _ {X : Type 0} (test : X → Bool) where
+  find_behind : (xs ys : List X) → find test (xs ++ ys) ≡ option_or (find test xs) (find test ys)
+  find_behind [] ys = refl
+  find_behind (x ∷ xs) ys = by (test x) (find_behind xs ys)
+    where
+      by : (b : Bool) → find test (xs ++ ys) ≡ option_or (find test xs) (find test ys) →
+          cond b (Some x) (find test (xs ++ ys)) ≡ option_or (cond b (Some x) (find test xs)) (find test ys)
+      by true rest = refl
+      by false rest = rest
 
--- and of an address that is registered then the last number stands behind all others
-last_given : (before after : Learnt) (rs more : List (Pmac × ℕ)) → length more ≤ 1 → AreNumbered before after more →
-    ((x : Pmac) (r : Registration) → registration before x ≡ Some r → find (λ g. same_pmac g.0 x) (reverse rs) ≡ Some (with_number r)) →
-    (x : Pmac) (r : Registration) → registration after x ≡ Some r → find (λ g. same_pmac g.0 x) (reverse (rs ++ more)) ≡ Some (with_number r)
-last_given before after rs [] few given last x r is = elim (given.registered x r is) [
-  | inl was ↦ subst (λ (xs : List (Pmac × ℕ)). find (λ g. same_pmac g.0 x) (reverse xs) ≡ Some (with_number r)) (sym (append-nil rs)) (last x r was)
-  | inr never ↦ absurd (among_of_Contains (with_number r) [] never)
+  found_there : (xs : List X) (x : X) → find test xs ≡ Some x → IsAmong x xs
+  found_there [] x found = absurd (none-some x found)
+  found_there (y ∷ xs) x found = by (found_there xs x) (test y) found
+    where
+      by : (find test xs ≡ Some x → IsAmong x xs) → (b : Bool) → cond b (Some y) (find test xs) ≡ Some x → IsAmong x (y ∷ xs)
+      by behind true at = inl (same_Some y x at)
+      by behind false at = inr (behind at)
+
+  never_there : (xs : List X) (x : X) → find test xs ≡ None → IsAmong x xs → test x ≡ true → ⊥
+  never_there [] x none h passes = h
+  never_there (y ∷ xs) x none h passes = by (λ at there. never_there xs x at there passes) (test y) refl none h
+    where
+      by : (find test xs ≡ None → IsAmong x xs → ⊥) → (b : Bool) → test y ≡ b → cond b (Some y) (find test xs) ≡ None → IsAmong x (y ∷ xs) → ⊥
+      by behind true is at there = none-some y (sym at)
+      by behind false is at (inl here) = false≢true (sym is ∙ ap test here ∙ passes)
+      by behind false is at (inr there) = behind at there
+
+among_reversed : {X : Type 0} (x : X) (xs : List X) → IsAmong x xs → IsAmong x (reverse xs)
+among_reversed x [] h = absurd h
+among_reversed x (y ∷ xs) (inl here) = subst (IsAmong x) (sym (reverse-append (y ∷ []) xs)) (among_right x (reverse xs) (y ∷ []) (inl here))
+among_reversed x (y ∷ xs) (inr there) = subst (IsAmong x) (sym (reverse-append (y ∷ []) xs)) (among_left x (reverse xs) (y ∷ []) (among_reversed x xs there))
+
+reversed_among : {X : Type 0} (x : X) (xs : List X) → IsAmong x (reverse xs) → IsAmong x xs
+reversed_among x [] h = h
+reversed_among x (y ∷ xs) h = elim (among_append x (reverse xs) (y ∷ []) (subst (IsAmong x) (reverse-append (y ∷ []) xs) h)) [
+  | inl there ↦ inr (reversed_among x xs there)
+  | inr now ↦ elim now [ inl here ↦ inl here | inr none ↦ absurd none ]
 ]
-last_given before after rs (g ∷ []) few given last x r is =
-    ap (find (λ g. same_pmac g.0 x)) (reverse-append rs (g ∷ [])) ∙ by (same_pmac g.0 x) refl (given.registered x r is)
+
+-- of an address that is registered then the last number stands behind all others
+last_given : (before after : ManagerView) (rs more : List (Pmac × ℕ)) → AreNumbered before after more →
+    ((x : Pmac) (r : Registration) → registration before.learnt x ≡ Some r → find (λ g. same_pmac g.0 x) (reverse rs) ≡ Some (with_number r)) →
+    (x : Pmac) (r : Registration) → registration after.learnt x ≡ Some r → find (λ g. same_pmac g.0 x) (reverse (rs ++ more)) ≡ Some (with_number r)
+last_given before after rs more given last x r is =
+    ap (find test) (reverse-append rs more) ∙ find_behind test (reverse more) (reverse rs) ∙ by (find test (reverse more)) refl (given.registered x r is)
   where
-    -- it is not the one that has a number since now
-    new : same_pmac g.0 x ≡ true → registration before x ≡ Some r → ⊥
-    new same was =
-        none-some r (sym (subst (λ y. registration before y ≡ None) (pmac_is g.0 x same) (given.numbers g.0 g.1 (Contains-of_among g (g ∷ []) (inl refl))).0) ∙ was)
+    test : Pmac × ℕ → Bool
+    test g = same_pmac g.0 x
 
-    one : Contains (g ∷ []) (with_number r) → g ≡ with_number r
-    one given_now = elim (among_of_Contains (with_number r) (g ∷ []) given_now) [ inl here ↦ here | inr never ↦ absurd never ]
-
-    by : (b : Bool) → same_pmac g.0 x ≡ b → (registration before x ≡ Some r) ⊎ Contains (g ∷ []) (with_number r) →
-        cond b (Some g) (find (λ g. same_pmac g.0 x) (reverse rs)) ≡ Some (with_number r)
-    by true same (inl was) = absurd (new same was)
-    by true same (inr given_now) = ap Some (one given_now)
-    by false other (inl was) = last x r was
-    by false other (inr given_now) =
-        absurd (false≢true (sym other ∙ ap (λ (h : Pmac × ℕ). same_pmac h.0 x) (one given_now) ∙ found_passes (λ (s : Registration). same_pmac s.pmac x) (registry after) r is))
-last_given before after rs (f ∷ g ∷ more) few given last x r is = absurd (omega (arith, few))
+    by : (o : Option (Pmac × ℕ)) → find test (reverse more) ≡ o → (registration before.learnt x ≡ Some r) ⊎ Contains more (with_number r) →
+        option_or o (find test (reverse rs)) ≡ Some (with_number r)
+    by (Some g) found was =
+        let at : g.0 ≡ x = pmac_is g.0 x (found_passes test (reverse more) g found) in
+        let now : Contains more (g.0, g.1) = Contains-of_among g more (reversed_among g more (found_there test (reverse more) g found)) in
+        ap Some (sym (given.given_as g.0 g.1 r now (ap (registration after.learnt) at ∙ is)))
+    by None found (inl was) = last x r was
+    by None found (inr now) =
+        absurd (never_there test (reverse more) (with_number r) found (among_reversed (with_number r) more (among_of_Contains (with_number r) more now))
+        (found_passes (λ (s : Registration). same_pmac s.pmac x) (registry after.learnt) r is))
 
 module _ (switch : SwitchRule) (manager : ManagerRule) (host : HostRule) (duly : AnswersDuly manager) where
   step_registered : (old : WorldView) (happens : Event) (new : WorldView) → WorldStep switch manager host old happens new → HasRegistered old → HasRegistered new
   step_registered old happens new step are =
       let more = registrations (written old new) in
       let rs = registrations old.journal in
-      let few = one_registered switch manager host old happens new step duly in
       let given = registrations_written switch manager host old happens new step duly in
       let all : registrations new.journal ≡ rs ++ more =
       ap registrations (journal_grows switch manager host old happens new step) ∙ filter_map-append registration_in old.journal (written old new) in
       let counted : new.manager.learnt.count ≡ length more + length rs = given.count ∙ ap (λ n. length more + n) are.count in
       subst (λ those. AreRegistered those new.manager.learnt) (sym all) (record {
-        last = last_given old.manager.learnt new.manager.learnt rs more few given are.last;
+        last = last_given old.manager new.manager rs more given are.last;
         count = let long = length-append rs more in omega (arith, counted, long);
-        numbers = numbers_more rs more new.manager.learnt.count few (next_given old.manager.learnt new.manager.learnt more few given) counted are.numbers;
+        numbers = numbers_more rs more old.manager.learnt.count are.count given.numbers are.numbers;
       })
 
   marked_registered : (old : WorldView) (entry : Entry) → IsMark entry → HasRegistered old → HasRegistered (noted old entry)

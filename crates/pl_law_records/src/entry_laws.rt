@@ -24,14 +24,15 @@ pub fn places_are_written_where_they_change<S: SwitchLogic, M: ManagerLogic, H: 
 {}
 
 /// Those that it writes of registrations are the addresses that the manager numbers in it: none was
-/// registered before, each is then, and has the next number; no other one is registered then that was not.
+/// registered before, the numbers are the next ones, in turn, and no other address is registered then that was
+/// not. Where the manager kept nothing each of them is registered then.
 pub fn registrations_are_written_where_they_are_made<
     S: SwitchLogic,
     M: ManagerLogic,
     H: HostLogic,
 >()
     ensures { (old : WorldView) (event : Event) (new : WorldView) → WorldStep S.rule M.rule H.rule old event new →
-        AreNumbered old.manager.learnt new.manager.learnt (registrations (written old new)) }
+        AreNumbered old.manager new.manager (registrations (written old new)) }
 {}
 
 /// So at each moment of each run from the beginning the place that a switch knows is what was written last

@@ -1,6 +1,6 @@
 ghost use Rattle.std.specs.Prelude.{◌≡◌, List};
 ghost use Rattle.pl_host_rule.specs.HostRule.{host_rule};
-ghost use Rattle.pl_manager_rule.specs.ManagerRule.{manager_rule};
+ghost use Rattle.pl_manager_rule.specs.WholeRule.{whole_rule};
 ghost use Rattle.pl_switch_rule.specs.SwitchRule.{Exact};
 ghost use Rattle.pl_world.specs.declared.event.Event.{Event};
 ghost use Rattle.pl_world.specs.Runs.{Moment, WorldRun};
@@ -27,18 +27,18 @@ pub fn rules_that_leave_no_choice_determine_a_run<S: SwitchLogic, M: ManagerLogi
 /// The exact rule of switches, the rule of the manager and that of hosts are such rules.
 pub fn the_rules_of_the_fabric_leave_no_choice()
     ensures switches { LeavesSwitchNoChoice Exact }
-    ensures manager { LeavesManagerNoChoice manager_rule }
+    ensures manager { LeavesManagerNoChoice whole_rule }
     ensures hosts { LeavesHostNoChoice host_rule }
 {}
 
 /// So with them a step is determined by the world before it and its event.
 pub fn a_step_is_determined()
     ensures { (old : WorldView) (event : Event) (one other : WorldView) →
-        WorldStep Exact manager_rule host_rule old event one → WorldStep Exact manager_rule host_rule old event other → one ≡ other }
+        WorldStep Exact whole_rule host_rule old event one → WorldStep Exact whole_rule host_rule old event other → one ≡ other }
 {}
 
 /// And a run by the world at its beginning and its moments.
 pub fn a_run_is_determined()
     ensures { (old : WorldView) (moments : List Moment) (one other : WorldView) →
-        WorldRun Exact manager_rule host_rule old moments one → WorldRun Exact manager_rule host_rule old moments other → one ≡ other }
+        WorldRun Exact whole_rule host_rule old moments one → WorldRun Exact whole_rule host_rule old moments other → one ≡ other }
 {}

@@ -23,7 +23,7 @@ use Rattle.pl_fabric.specs.Settlings.{Settles}
 use Rattle.pl_fabric.proofs.Exports.{rounds_are_run}
 use Rattle.pl_law_control_plane.specs.ControlPlanes.{control_plane}
 use Rattle.pl_law_votes.specs.Voting.{edge_no}
-use Rattle.pl_law_invariant.proofs.Exports.{run_keeps_all, run_lawful}
+use Rattle.pl_law_invariant.proofs.Exports.{first_at_first, run_keeps_all, run_lawful}
 use Rattle.pl_law_records.specs.Records.{AreCurrent, LinksAreCurrent}
 use Rattle.pl_law_records.proofs.Exports.{run_links, run_ordered, run_reported}
 use Rattle.pl_law_placing.specs.Resting.{HasFirst, HavePositions}
@@ -40,7 +40,7 @@ module _ (switch : SwitchRule) (manager : ManagerRule) (host : HostRule) (within
     (sends : HostsSendData host) (owns : HostsSendOwn host) (plan : Plan) (limits : Limits) (moments : List Moment) (new : WorldView) (can : CanBegin plan)
     (run : WorldRun switch manager host (booted plan limits) moments new) where
   loose : WorldRun Loose manager_rule host (booted plan limits) moments new
-  loose = run_lawful switch manager host within lawful (booted plan limits) moments new run
+  loose = run_lawful switch manager host within lawful (booted plan limits) moments new (first_at_first plan limits) run
 
   pub run_current : HasSettledQueues new → AreCurrent (control_plane new)
   run_current queues = are_current new (run_reported host sends plan limits moments new can loose) (run_ordered host sends plan limits moments new can loose) queues

@@ -70,6 +70,14 @@ impl<T> Queue<T> {
 }
 
 impl<T: Drop> Queue<T> {
+    /// Takes all items away.
+    pub fn clear(&mut self)
+        ensures { self.new ≡ [] }
+    {
+        self.items.clear();
+        self.give_back();
+    }
+
     /// Puts an item behind the last.
     pub fn push(&mut self, item: T) -> Result<(), Memory>
         ensures ok { OnOk result (self.new ≡ self.old ++ item ∷ []) }
@@ -96,6 +104,9 @@ mod tests {
         assert_eq!(rt; queue.take_first(), Some(3));
         assert_eq!(rt; queue.take_first(), Some(5));
         assert_eq!(rt; queue.take_first(), None);
+        queue.push(7)?;
+        queue.clear();
+        assert!(rt; queue.is_empty());
         Ok(())
     }
 }

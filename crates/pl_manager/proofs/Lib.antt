@@ -5,4 +5,8 @@ pub mod Changes
 pub mod Pods
 pub mod Lent
 pub mod Heard
+pub mod Treated
+pub mod Gathers
+pub mod Turns
+pub mod Anew
 pub mod SameTrees

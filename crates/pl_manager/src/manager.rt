@@ -1,15 +1,16 @@
+ghost use Rattle.std.specs.Prelude.{◌≡◌};
+ghost use Rattle.pl_node.specs.ManagerFacts.{switch_count};
 ghost use Rattle.pl_node.specs.SwitchFacts.{IsTreeSize};
 
-use crate::routing::Routing;
-use pl_registry::{Askers, Registry};
+use crate::known::Known;
+use pl_gatherer::Gatherer;
 
 /// The fabric manager. What it knows is what its rule says; pods, addresses and lists are looked up, and no
 /// tree is made anew for a word that changes none.
 #[derive(Drop)]
 pub struct Manager {
-    pub(crate) k: u8,
-    pub(crate) routing: Routing,
-    pub(crate) askers: Askers,
-    pub(crate) registry: Registry,
-    ghost size: { IsTreeSize k },
+    pub(crate) known: Known,
+    pub(crate) gatherer: Gatherer,
+    ghost size: { IsTreeSize known.k },
+    ghost many: { gatherer.many ≡ switch_count known.k },
 }

@@ -1,10 +1,11 @@
-ghost use Rattle.std.specs.Prelude.{◌≡◌, ◌<◌, ◌+◌, ◌++◌, ◌∷◌, [], OnOk, Some, length, unwrap_or};
+ghost use Rattle.std.specs.Prelude.{◌≡◌, ◌<◌, ◌+◌, ◌++◌, ◌∷◌, [], if◌then◌else◌, OnOk, Some, length, unwrap_or};
 ghost use Rattle.pl_node.specs.declared.acts.ManagerAct.TheVariants.{Say};
 ghost use Rattle.pl_node.specs.declared.messages.ToSwitch.TheVariants.{Pod};
 ghost use Rattle.pl_node.specs.ManagerViews.{lookup, pod_given, switches};
-ghost use Rattle.pl_manager_rule.specs.ManagerRule.{answer_to, hears_aged, learning, with_asker, with_learnt};
+ghost use Rattle.pl_manager_rule.specs.ManagerRule.{answer_to, learning, with_asker, with_learnt};
+ghost use Rattle.pl_manager_rule.specs.Reports.{counts_as, known_at};
 ghost use Rattle.pl_registry.specs.Askers.{pod_holders};
-ghost use Rattle.pl_registry.specs.Learning.{acts_of_learning, acts_of_release};
+ghost use Rattle.pl_registry.specs.Learning.{acts_of_learning, acts_of_release, noted_aged};
 
 use crate::giving::pod_for;
 use crate::telling::say;
@@ -69,24 +70,26 @@ fn tell_learning(pmac: Pmac, new: Learning, out: &mut ManagerOutbox) -> Result<(
     }
 }
 
-/// An edge switch tells that an address has aged there. The switches that told what is released by that are
-/// told so.
-pub(crate) fn age(
+/// A switch tells, to a manager of this epoch, that an address has aged there. Where that counts it is noted.
+pub(crate) fn note_aged(
     registry: &mut Registry,
+    switch: SwitchId,
     pmac: Pmac,
     number: u64,
-    out: &mut ManagerOutbox,
+    epoch: u32,
+    aged: &mut Vec<Pmac>,
 ) -> Result<(), Memory>
-    ensures learnt { OnOk result (registry.new ≡ (hears_aged registry.old pmac number).learnt) }
-    ensures acts { OnOk result (out.new ≡ out.old ++ (hears_aged registry.old pmac number).acts) }
+    ensures learnt { OnOk result (registry.new ≡ noted_aged epoch registry.old switch pmac number (known_at registry.old pmac)) }
+    ensures aged { OnOk result (aged.new.items ≡ (if counts_as epoch number (known_at registry.old pmac) then aged.old.items ++ pmac ∷ [] else aged.old.items)) }
 {
-    let releases = registry.age(pmac, number)?;
-    tell_release(releases.own, out)?;
-    tell_release(releases.led, out)?;
+    if registry.note_aged(switch, pmac, number, epoch)? {
+        aged.push(pmac)?;
+    }
     Ok(())
 }
 
-fn tell_release(release: Option<Release>, out: &mut ManagerOutbox) -> Result<(), Memory>
+/// The switch that told an address which is released is told so.
+pub(crate) fn tell_release(release: Option<Release>, out: &mut ManagerOutbox) -> Result<(), Memory>
     ensures { OnOk result (out.new ≡ out.old ++ acts_of_release release) }
 {
     match release {

@@ -93,6 +93,9 @@ aged_count learnt x n = aged_keeps (λ l. l.count ≡ learnt.count) (λ l y is. 
 pub aged_owners : (learnt : Learnt) (x : Pmac) (n : ℕ) → (hears_aged learnt x n).learnt.owners ≡ learnt.owners
 aged_owners learnt x n = aged_keeps (λ l. l.owners ≡ learnt.owners) (λ l y is. is) (λ l y is. is) learnt x n refl
 
+pub aged_reported : (learnt : Learnt) (x : Pmac) (n : ℕ) → (hears_aged learnt x n).learnt.reported ≡ learnt.reported
+aged_reported learnt x n = aged_keeps (λ l. l.reported ≡ learnt.reported) (λ l y is. is) (λ l y is. is) learnt x n refl
+
 -- ---- registrations: no address is registered anew
 -- that one has aged changes none
 pub aged_registration : (learnt : Learnt) (x y : Pmac) → registration (with_aged learnt x) y ≡ registration learnt y
@@ -118,7 +121,7 @@ other_registration learnt x y other =
 abbrev pub WasRegistered : Learnt → Learnt → Type 0
 WasRegistered before after = (y : Pmac) (r : Registration) → registration after y ≡ Some r → registration before y ≡ Some r
 
-forgotten_was : (learnt : Learnt) (x : Pmac) → WasRegistered learnt (forgets learnt x)
+pub forgotten_was : (learnt : Learnt) (x : Pmac) → WasRegistered learnt (forgets learnt x)
 forgotten_was learnt x y r is = by (same_pmac y x) refl
   where
     by : (b : Bool) → same_pmac y x ≡ b → registration learnt y ≡ Some r

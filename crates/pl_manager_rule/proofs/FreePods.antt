@@ -221,13 +221,13 @@ module _ (told : Told) (pods : List PodGiven) (s : SwitchId) where
       subst (IsFree told pods) (same_Some free n (sym (own_number none) ∙ is)) (first_is_free told pods)
 
   -- one that was given before is not free
-  free_given : (b : SwitchId) (n : ℕ) → pod_given pods b ≡ Some n → free ≡ n → ⊥
+  pub free_given : (b : SwitchId) (n : ℕ) → pod_given pods b ≡ Some n → free ≡ n → ⊥
   free_given b n is same =
       both_ways (is_taken told pods free) (first_is_free told pods).free
       (subst (λ m. is_taken told pods m ≡ true) (sym same) (or_right (is_told_pod told n) (is_given_pod pods n) (given_taken pods b n is)))
 
   -- a number that is given then was given before, or is the free one
-  of_either : (b : SwitchId) (n : ℕ) → pod_given (new ∷ pods) b ≡ Some n → ((s.0 ≡ b.0) × (free ≡ n)) ⊎ (pod_given pods b ≡ Some n)
+  pub of_either : (b : SwitchId) (n : ℕ) → pod_given (new ∷ pods) b ≡ Some n → ((s.0 ≡ b.0) × (free ≡ n)) ⊎ (pod_given pods b ≡ Some n)
   of_either b n is = by (same_switch s b) refl is
     where
       by : (c : Bool) → same_switch s b ≡ c → option_map (λ g. g.pod) (cond c (Some new) (find (λ g. same_switch g.switch b) pods)) ≡ Some n →

@@ -1,5 +1,5 @@
 -- The fabric manager speaks to switches that it heard, and numbers just the addresses that it learns.
-use Rattle.std.proofs.Common.{◌≡◌, ◌≤◌, ◌⊎◌, arith, ℕ, ◌+◌, ◌||◌, not, Bool, true, false, cond, List, [], ◌∷◌, ◌++◌, map, Contains, Option, Some, None, filter_map, flat_map, refl, sym, ap, append-nil, ◌∙◌, subst, inl, inr}
+use Rattle.std.proofs.Common.{◌≡◌, ◌≤◌, ◌⊎◌, arith, ℕ, ◌+◌, ◌||◌, not, Bool, true, false, cond, List, [], ◌∷◌, ◌++◌, map, length, Option, Some, None, IsSome, is_some, filter_map, flat_map, refl, sym, ap, append-nil, ◌∙◌, subst, inl, inr}
 use Rattle.std.specs.Prelude.{unwrap_or}
 use Rattle.std.specs.List.{find, list_all, list_any}
 use Rattle.std.specs.Option.{option_map}
@@ -18,24 +18,24 @@ use Rattle.pl_node.specs.declared.messages.ToSwitch.{ToSwitch}
 use Rattle.pl_node.specs.declared.messages.ToSwitch.TheVariants as say
 use Rattle.pl_node.specs.declared.messages.ToManager.{ToManager}
 use Rattle.pl_node.specs.declared.messages.ToManager.TheVariants as tell
-use Rattle.pl_node.specs.ManagerViews.{Learnt, ManagerView, Registration, is_heard, lookup, newest, pod_given, registered_as, registration, registry, switches, tellers}
+use Rattle.pl_node.specs.ManagerViews.{Learnt, ManagerView, Members, Registration, Told, is_heard, lookup, newest, pod_given, registered_as, registration, registry, switches}
 use Rattle.pl_node.specs.ManagerFacts.{groups}
-use Rattle.pl_node.specs.ManagerDuties.{AnswersDuly, AreNumbered, IsGrown, numbered_by, with_number, is_for_heard}
+use Rattle.pl_node.specs.ManagerDuties.{AnswersDuly, AreNumbered, AreRegistered, IsGrown, numbered_by, with_number, is_for_heard}
 use Rattle.pl_node.specs.AvoidLists.{avoid_list}
-use Rattle.pl_node.proofs.Exports.{all_among, among_filter, among_flat_map, among_map, among_of_Contains, among_right, Contains-of_among, nothing_numbered}
+use Rattle.pl_node.specs.declared.pod_given.PodGiven.{PodGiven}
+use Rattle.pl_node.proofs.Exports.{all_among, among_filter, among_flat_map, among_map, among_of_Contains, IsAmong, nothing_learnt, nothing_numbered}
 use Rattle.pl_manager_rule.specs.ManagerRule.{ToldAddress, acts_of, answer_to, avoid_acts, changed, changed_of_group, hears_aged, host_of, invalidation, is_registered, learning, learnt_as, manager_hears, manager_rule, part_in, recalled, reply, same_avoid_list, same_part, told_again, tree_acts, tree_acts_of, view_after, with_learnt, with_owner}
 use Rattle.pl_manager_rule.proofs.Aging.{AreReleases, aged_count, aged_releases, aged_was, releases_number_nothing}
-use Rattle.pl_manager_rule.proofs.Learning.{found_nowhere, recalled_numbers, same_numbers}
-use Rattle.pl_manager_rule.proofs.Speakers.{heard_after, listed_is_heard, newest_heard, now_or_before, registered_heard}
+use Rattle.pl_manager_rule.proofs.Learning.{found_nowhere, recalled_numbers, same_numbers, still_registered}
+use Rattle.pl_manager_rule.proofs.Numbers.{LearnsAs, learns_nothing, numbered_of, some_numbered}
+use Rattle.pl_manager_rule.proofs.Speakers.{heard_after, learner_speaks, listed_is_heard, newest_heard, now_or_before, registered_heard}
 
 -- ---- the acts
 invalidation_heard : (view : ManagerView) (s : SwitchId) (learnt : Learnt) (new : Pmac) (n : ℕ) (amac : Mac) (o : Option Registration) →
     newest view.learnt amac ≡ o → list_all (is_for_heard view s) (invalidation learnt new n o) ≡ true
 invalidation_heard view s learnt new n amac None e = refl
 invalidation_heard view s learnt new n amac (Some old) e =
-    let learners = map (λ a. a.switch) view.learnt.addresses in let members = map (λ m. m.0.0) view.members in let askers = map (λ g. g.switch) view.pods in
-    let among = among_right old.switch (tellers view.told) (members ++ (askers ++ learners))
-    (among_right old.switch members (askers ++ learners) (among_right old.switch askers learners (newest_heard view.learnt amac old e))) in
+    let among = learner_speaks view old.switch (newest_heard view.learnt amac old e) in
     and_from (same_switch s old.switch || is_heard view old.switch) true (now_or_before view s old.switch (inr among)) refl
 
 learning_heard : (view : ManagerView) (s : SwitchId) (after : Learnt) (pmac : Pmac) (amac : Mac) →
@@ -51,9 +51,7 @@ learning_heard view s after pmac amac =
 teller_heard : (view : ManagerView) (s : SwitchId) (x : Pmac) (r : Registration) → registration view.learnt x ≡ Some r →
     (same_switch s r.switch || is_heard view r.switch) ≡ true
 teller_heard view s x r is =
-    let learners = map (λ a. a.switch) view.learnt.addresses in let members = map (λ m. m.0.0) view.members in let askers = map (λ g. g.switch) view.pods in
-    now_or_before view s r.switch (inr (among_right r.switch (tellers view.told) (members ++ (askers ++ learners))
-    (among_right r.switch members (askers ++ learners) (among_right r.switch askers learners (registered_heard view.learnt x r is)))))
+    now_or_before view s r.switch (inr (learner_speaks view r.switch (registered_heard view.learnt x r is)))
 
 releases_heard : (view : ManagerView) (s : SwitchId) (acts : List ManagerAct) → AreReleases view.learnt acts → list_all (is_for_heard view s) acts ≡ true
 releases_heard view s [] all = refl
@@ -94,7 +92,7 @@ module _ (view : ManagerView) (s : SwitchId) (says : ToManager) where
       let listed = among_filter (λ t. not (same_part (part_in view of.0 t) (part_in then of.0 t))) at.0 (switches then.told) at.1 in
       subst (λ a. is_for_heard view s a ≡ true) at.2 (listed_is_heard view s says at.0 listed.0))
 
-  acts_heard : list_all (is_for_heard view s) (acts_of view then s says) ≡ true
+  pub acts_heard : list_all (is_for_heard view s) (acts_of view then s says) ≡ true
   acts_heard =
       let test = is_for_heard view s in let own = reply view then s says in
       let avoid = avoid_acts view.told then.told in let trees = tree_acts view then in
@@ -122,28 +120,21 @@ invalidation_numbers_nothing : (learnt : Learnt) (new : Pmac) (n : ℕ) (o : Opt
 invalidation_numbers_nothing learnt new n None = refl
 invalidation_numbers_nothing learnt new n (Some old) = refl
 
-not_contained : {X : Type 0} (x : X) → Contains [] x → ⊥
-not_contained x h = among_of_Contains x [] h
-
-only_one : {X : Type 0} (x y : X) → Contains (x ∷ []) y → y ≡ x
-only_one x y h = elim (among_of_Contains y (x ∷ []) h) [ inl is ↦ sym is | inr none ↦ absurd none ]
-
 -- what is registered once an address was learnt is that one, or was before
 new_or_old : (before : Learnt) (new : ToldAddress) (first : Registration)
     (same : map registered_as (recalled (newest before new.amac) new.pmac (before.count + 1) before.addresses) ≡ registry before) (x : Pmac) (r : Registration) →
     cond (same_pmac first.pmac x) (Some first) (find (λ r. same_pmac r.pmac x) (map registered_as (recalled (newest before new.amac) new.pmac (before.count + 1) before.addresses))) ≡ Some r →
-    (registration before x ≡ Some r) ⊎ Contains (with_number first ∷ []) (with_number r)
+    (registration before x ≡ Some r) ⊎ IsAmong (with_number r) (with_number first ∷ [])
 new_or_old before new first same x r = by (same_pmac first.pmac x)
   where
     by : (b : Bool) → cond b (Some first) (find (λ r. same_pmac r.pmac x) (map registered_as (recalled (newest before new.amac) new.pmac (before.count + 1) before.addresses))) ≡ Some r →
-        (registration before x ≡ Some r) ⊎ Contains (with_number first ∷ []) (with_number r)
-    by true is = inr (subst (λ (q : Registration). Contains (with_number first ∷ []) (with_number q)) (same_Some first r is)
-        (Contains-of_among (with_number first) (with_number first ∷ []) (inl refl)))
+        (registration before x ≡ Some r) ⊎ IsAmong (with_number r) (with_number first ∷ [])
+    by true is = inr (inl (ap with_number (same_Some first r is)))
     by false is = inl (sym (ap (find (λ r. same_pmac r.pmac x)) same) ∙ is)
 
 -- what was learnt once this was told: of an address that was registered, or not
 abbrev learnt_by : Learnt → ToldAddress → Bool → Learnt
-learnt_by before new b = record {
+learnt_by before new b = record before {
   addresses = cond b (map (told_again new) before.addresses)
       (learnt_as (before.count + 1) new ∷ recalled (newest before new.amac) new.pmac (before.count + 1) before.addresses);
   owners = with_owner before.owners new.ip (host_of before new);
@@ -151,62 +142,89 @@ learnt_by before new b = record {
 }
 
 -- it is given the next number
-learning_numbers : (before : Learnt) (new : ToldAddress) →
-    AreNumbered before (with_learnt before new) (filter_map numbered_by (learning before (with_learnt before new) new.pmac new.amac))
+pub learning_numbers : (before : Learnt) (new : ToldAddress) →
+    LearnsAs before (with_learnt before new) (filter_map numbered_by (learning before (with_learnt before new) new.pmac new.amac))
 learning_numbers before new = by (is_registered before.addresses new.pmac) refl
   where
-    by : (b : Bool) → is_registered before.addresses new.pmac ≡ b → AreNumbered before (learnt_by before new b) (filter_map numbered_by
+    keeps : (x : Pmac) (r : Registration) → registration before x ≡ Some r → registration (with_learnt before new) x ≡ Some r
+    keeps x r is = still_registered before new x (ap is_some is) ∙ is
+
+    by : (b : Bool) → is_registered before.addresses new.pmac ≡ b → LearnsAs before (learnt_by before new b) (filter_map numbered_by
         (cond b [] (Number new.pmac (before.count + 1) ∷ invalidation (with_learnt before new) new.pmac (before.count + 1) (newest before new.amac))))
-    by true there = record {
-      count = omega arith;
-      numbers = λ x n h. absurd (not_contained (x, n) h);
-      registered = λ x r is. inl (sym (ap (find (λ r. same_pmac r.pmac x)) (same_numbers new before.addresses)) ∙ is);
-    }
+    by true there = learns_nothing before (learnt_by before new true) refl (λ x. ap (find (λ r. same_pmac r.pmac x)) (same_numbers new before.addresses))
     by false fresh =
         let n = before.count + 1 in
         let one : Pmac × ℕ = (new.pmac, n) in
         let first : Registration = registered_as (learnt_as n new) in
         let same : map registered_as (recalled (newest before new.amac) new.pmac n before.addresses) ≡ registry before =
         recalled_numbers (newest before new.amac) new.pmac n before.addresses in
-        subst (λ ns. AreNumbered before (learnt_by before new false) (one ∷ ns))
+        subst (λ ns. LearnsAs before (learnt_by before new false) (one ∷ ns))
         (sym (invalidation_numbers_nothing (with_learnt before new) new.pmac n (newest before new.amac)))
         (record {
           count = omega arith;
-          numbers = λ x m h. let is : (x, m) ≡ one = only_one one (x, m) h in
-              subst (λ (g : Pmac × ℕ). (registration before g.0 ≡ None) × (g.1 ≡ n) × (option_map with_number (registration (learnt_by before new false) g.0) ≡ Some g))
-              (sym is) (
-                found_nowhere (λ r. same_pmac r.pmac new.pmac) (registry before) fresh,
-                refl,
-                ap (λ b. option_map with_number (cond b (Some first) (find (λ r. same_pmac r.pmac new.pmac) (map registered_as (recalled (newest before new.amac) new.pmac n before.addresses)))))
-                    (pmac_itself new.pmac),
-              );
+          numbers = refl;
+          fresh = λ x m h. elim h [
+            | inl is ↦ subst (λ (g : Pmac × ℕ). registration before g.0 ≡ None) is (found_nowhere (λ r. same_pmac r.pmac new.pmac) (registry before) fresh)
+            | inr none ↦ absurd none
+          ];
+          stands = λ x m h. elim h [
+            | inl is ↦ subst (λ (g : Pmac × ℕ). option_map with_number (registration (learnt_by before new false) g.0) ≡ Some g) is
+                (ap (λ b. option_map with_number (cond b (Some first) (find (λ r. same_pmac r.pmac new.pmac) (map registered_as (recalled (newest before new.amac) new.pmac n before.addresses)))))
+                (pmac_itself new.pmac))
+            | inr none ↦ absurd none
+          ];
+          keeps = λ x r is. subst (λ b. registration (learnt_by before new b) x ≡ Some r) fresh (keeps x r is);
           registered = λ x r is. new_or_old before new first same x r is;
         })
 
 -- an address that has aged is given none
-aging_numbers : (learnt : Learnt) (x : Pmac) (n : ℕ) → AreNumbered learnt (hears_aged learnt x n).learnt (filter_map numbered_by (hears_aged learnt x n).acts)
-aging_numbers learnt x n =
-    subst (AreNumbered learnt (hears_aged learnt x n).learnt) (sym (releases_number_nothing learnt (hears_aged learnt x n).acts (aged_releases learnt x n)))
-    (record {
-      count = let same = aged_count learnt x n in omega (arith, same);
-      numbers = λ y m h. absurd (not_contained (y, m) h);
-      registered = λ y r is. inl (aged_was learnt x n y r is);
-    })
+aging_numbers : (view : ManagerView) (x : Pmac) (n : ℕ) →
+    AreNumbered view (record view { learnt = (hears_aged view.learnt x n).learnt }) (filter_map numbered_by (hears_aged view.learnt x n).acts)
+aging_numbers view x n =
+    let after = record view { learnt = (hears_aged view.learnt x n).learnt } in
+    subst (AreNumbered view after) (sym (releases_number_nothing view.learnt (hears_aged view.learnt x n).acts (aged_releases view.learnt x n)))
+    (numbered_of view after view.learnt [] (learns_nothing view.learnt view.learnt refl (λ y. refl)) (aged_count view.learnt x n) (aged_was view.learnt x n)
+    (λ none y m h. absurd h))
+
+learned_numbers : (view : ManagerView) (new : ToldAddress) →
+    AreNumbered view (record view { learnt = with_learnt view.learnt new }) (filter_map numbered_by (learning view.learnt (with_learnt view.learnt new) new.pmac new.amac))
+learned_numbers view new =
+    let after = with_learnt view.learnt new in
+    let given = filter_map numbered_by (learning view.learnt after new.pmac new.amac) in
+    let learns = learning_numbers view.learnt new in
+    numbered_of view (record view { learnt = after }) after given learns refl (λ x r is. is) (λ none x n h. some_numbered (registration after x) (x, n) (learns.stands x n h))
+
+-- an address that is given a number is registered then
+reply_registers : (view : ManagerView) (s : SwitchId) (says : ToManager) (x : Pmac) (n : ℕ) →
+    IsAmong (x, n) (filter_map numbered_by (reply view (view_after view s says) s says)) → IsSome (registration (view_after view s says).learnt x)
+reply_registers view s tell.PodWanted x n h = absurd h
+reply_registers view s (tell.Learned pmac amac ip) x n h =
+    let new : ToldAddress = record { switch = s; pmac = pmac; amac = amac; ip = ip } in
+    some_numbered (registration (with_learnt view.learnt new) x) (x, n) ((learning_numbers view.learnt new).stands x n h)
+reply_registers view s (tell.Aged pmac number) x n h =
+    absurd (subst (IsAmong (x, n)) (releases_number_nothing view.learnt (hears_aged view.learnt pmac number).acts (aged_releases view.learnt pmac number)) h)
+reply_registers view s (tell.Begin epoch) x n h = absurd h
+reply_registers view s (tell.End epoch) x n h = absurd h
+reply_registers view s (tell.Trapped trapped toward numbered) x n h = absurd h
+reply_registers view s (tell.Query asker asker_ip ip) x n h = absurd h
+reply_registers view s (tell.Place place) x n h = absurd h
+reply_registers view s (tell.Link u usable) x n h = absurd h
+reply_registers view s (tell.Members group any) x n h = absurd h
 
 reply_numbers : (view : ManagerView) (s : SwitchId) (says : ToManager) →
-    AreNumbered view.learnt (view_after view s says).learnt (filter_map numbered_by (reply view (view_after view s says) s says))
-reply_numbers view s tell.PodWanted = nothing_numbered view.learnt
-reply_numbers view s (tell.Learned pmac amac ip) = learning_numbers view.learnt (record { switch = s; pmac = pmac; amac = amac; ip = ip })
-reply_numbers view s (tell.Aged pmac number) = aging_numbers view.learnt pmac number
-reply_numbers view s (tell.Begin epoch) = nothing_numbered view.learnt
-reply_numbers view s (tell.End epoch) = nothing_numbered view.learnt
-reply_numbers view s (tell.Trapped trapped toward numbered) = nothing_numbered view.learnt
-reply_numbers view s (tell.Query asker asker_ip ip) = nothing_numbered view.learnt
-reply_numbers view s (tell.Place place) = nothing_numbered view.learnt
-reply_numbers view s (tell.Link u usable) = nothing_numbered view.learnt
-reply_numbers view s (tell.Members group any) = nothing_numbered view.learnt
+    AreNumbered view (view_after view s says) (filter_map numbered_by (reply view (view_after view s says) s says))
+reply_numbers view s tell.PodWanted = nothing_learnt view _ refl
+reply_numbers view s (tell.Learned pmac amac ip) = learned_numbers view (record { switch = s; pmac = pmac; amac = amac; ip = ip })
+reply_numbers view s (tell.Aged pmac number) = aging_numbers view pmac number
+reply_numbers view s (tell.Begin epoch) = nothing_numbered view
+reply_numbers view s (tell.End epoch) = nothing_numbered view
+reply_numbers view s (tell.Trapped trapped toward numbered) = nothing_numbered view
+reply_numbers view s (tell.Query asker asker_ip ip) = nothing_numbered view
+reply_numbers view s (tell.Place place) = nothing_learnt view _ refl
+reply_numbers view s (tell.Link u usable) = nothing_learnt view _ refl
+reply_numbers view s (tell.Members group any) = nothing_learnt view _ refl
 
-acts_number : (view : ManagerView) (s : SwitchId) (says : ToManager) →
+pub acts_number : (view : ManagerView) (s : SwitchId) (says : ToManager) →
     filter_map numbered_by (acts_of view (view_after view s says) s says) ≡ filter_map numbered_by (reply view (view_after view s says) s says)
 acts_number view s says =
     let after = view_after view s says in let own = reply view after s says in
@@ -218,12 +236,17 @@ acts_number view s says =
     ∙ ap (λ ns. filter_map numbered_by own ++ ns) (said_numbers_nothing (λ t. say.Avoid (avoid_list after.told t)) (changed view.told after.told))
     ∙ append-nil (filter_map numbered_by own)
 
+acts_register : (view : ManagerView) (s : SwitchId) (says : ToManager) → AreRegistered (view_after view s says) (acts_of view (view_after view s says) s says)
+acts_register view s says x n h =
+    let acts = acts_of view (view_after view s says) s says in
+    inl (reply_registers view s says x n (subst (IsAmong (x, n)) (acts_number view s says) (among_of_Contains (x, n) (filter_map numbered_by acts) h)))
+
 -- one address is learnt at most
 one_more : (b : Bool) (n : ℕ) → cond b n (n + 1) ≤ n + 1
 one_more true n = omega arith
 one_more false n = omega arith
 
-addresses_after : (view : ManagerView) (s : SwitchId) (says : ToManager) → (view_after view s says).learnt.count ≤ view.learnt.count + 1
+pub addresses_after : (view : ManagerView) (s : SwitchId) (says : ToManager) → (view_after view s says).learnt.count ≤ view.learnt.count + 1
 addresses_after view s (tell.Learned pmac amac ip) = one_more (is_registered view.learnt.addresses pmac) view.learnt.count
 addresses_after view s (tell.Aged pmac number) = let same = aged_count view.learnt pmac number in omega (arith, same)
 addresses_after view s (tell.Begin epoch) = omega arith
@@ -235,23 +258,30 @@ addresses_after view s (tell.Link u usable) = omega arith
 addresses_after view s tell.PodWanted = omega arith
 addresses_after view s (tell.Members group any) = omega arith
 
-same_k : (view : ManagerView) (s : SwitchId) (says : ToManager) → (view_after view s says).k ≡ view.k
-same_k view s (tell.Learned pmac amac ip) = refl
-same_k view s (tell.Aged pmac number) = refl
-same_k view s (tell.Begin epoch) = refl
-same_k view s (tell.End epoch) = refl
-same_k view s (tell.Trapped trapped toward numbered) = refl
-same_k view s (tell.Query asker asker_ip ip) = refl
-same_k view s (tell.Place place) = refl
-same_k view s (tell.Link u usable) = refl
-same_k view s tell.PodWanted = refl
-same_k view s (tell.Members group any) = refl
+-- what a word leaves alone
+pub same_besides : {X : Type 0} (f : ManagerView → X) → ((view : ManagerView) (told : Told) (members : Members) (pods : List PodGiven) (learnt : Learnt) →
+    f (record view { told = told; members = members; pods = pods; learnt = learnt }) ≡ f view) →
+    (view : ManagerView) (s : SwitchId) (says : ToManager) → f (view_after view s says) ≡ f view
+same_besides f same view s (tell.Learned pmac amac ip) = same view view.told view.members view.pods _
+same_besides f same view s (tell.Aged pmac number) = same view view.told view.members view.pods _
+same_besides f same view s (tell.Begin epoch) = refl
+same_besides f same view s (tell.End epoch) = refl
+same_besides f same view s (tell.Trapped trapped toward numbered) = refl
+same_besides f same view s (tell.Query asker asker_ip ip) = refl
+same_besides f same view s (tell.Place place) = same view _ view.members view.pods view.learnt
+same_besides f same view s (tell.Link u usable) = same view _ view.members view.pods view.learnt
+same_besides f same view s tell.PodWanted = same view view.told view.members _ view.learnt
+same_besides f same view s (tell.Members group any) = same view view.told _ view.pods view.learnt
 
 grown : (view : ManagerView) (s : SwitchId) (says : ToManager) → IsGrown view s (view_after view s says)
 grown view s says = record {
-  k = same_k view s says;
+  k = same_besides (λ v. v.k) (λ v told members pods learnt. refl) view s says;
+  epoch = same_besides (λ v. v.epoch) (λ v told members pods learnt. refl) view s says;
   heard = λ t h. heard_after view s t says h;
-  addresses = addresses_after view s says;
+  addresses =
+      let more = addresses_after view s says in
+      let kept = same_besides (λ v. length v.kept) (λ v told members pods learnt. refl) view s says in
+      omega (arith, more, kept);
 }
 
 pub manager_answers : AnswersDuly manager_rule
@@ -259,8 +289,10 @@ unfolding manager_hears
 manager_answers = record {
   heard = λ before s says after acts h. subst (λ a. list_all (is_for_heard before s) a ≡ true) (sym h.1) (acts_heard before s says);
   numbered = λ before s says after acts h.
-      subst (λ v. AreNumbered before.learnt v.learnt (filter_map numbered_by acts)) (sym h.0)
-      (subst (AreNumbered before.learnt (view_after before s says).learnt) (sym (ap (filter_map numbered_by) h.1 ∙ acts_number before s says))
+      subst (λ v. AreNumbered before v (filter_map numbered_by acts)) (sym h.0)
+      (subst (AreNumbered before (view_after before s says)) (sym (ap (filter_map numbered_by) h.1 ∙ acts_number before s says))
       (reply_numbers before s says));
+  registers = λ before s says after acts h.
+      subst (λ v. AreRegistered v acts) (sym h.0) (subst (AreRegistered (view_after before s says)) (sym h.1) (acts_register before s says));
   grows = λ before s says after acts h. subst (IsGrown before s) (sym h.0) (grown before s says);
 }

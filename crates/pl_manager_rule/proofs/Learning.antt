@@ -9,7 +9,7 @@ use Rattle.pl_pmac.specs.declared.pmac.Pmac.{Pmac}
 use Rattle.pl_layouts.specs.Equality.{same_pmac}
 use Rattle.pl_layouts.proofs.Exports.{pmac_is, pmac_itself}
 use Rattle.pl_node.specs.ManagerViews.{Learnt, LearntAddress, Registration, newest, registered_as, registration, registry}
-use Rattle.pl_manager_rule.specs.ManagerRule.{ToldAddress, host_of, is_registered, leads_on, learnt_as, recalled, told_again, with_address, with_learnt}
+use Rattle.pl_manager_rule.specs.ManagerRule.{ToldAddress, host_of, is_registered, leads_on, learnt_as, recalled, told_again, with_learnt}
 
 -- ---- lists
 module _ {X : Type 0} (test : X → Bool) where

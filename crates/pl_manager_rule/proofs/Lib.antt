@@ -8,6 +8,10 @@ pub mod Tables
 pub mod Learning
 pub mod Aging
 pub mod Speakers
+pub mod Numbers
+pub mod Reported
+pub mod WholeDuties
+pub mod WholeRule
 pub mod Kept
 pub mod Repeated
 pub mod ToldLast

@@ -112,7 +112,7 @@ learnt_same view new there own owners =
     let those : with_address learnt new ≡ learnt.addresses =
     ap (λ b. cond b (map (told_again new) learnt.addresses) (learnt_as n new ∷ recalled (newest learnt new.amac) new.pmac n learnt.addresses)) registered
     ∙ all_same new learnt.addresses own in
-    λ i. record { addresses = those i; owners = owners i; count = cond (registered i) learnt.count (learnt.count + 1) }
+    λ i. record learnt { addresses = those i; owners = owners i; count = cond (registered i) learnt.count (learnt.count + 1) }
 
 told_same : (view : ManagerView) (s : SwitchId) (pmac : Pmac) (amac : Mac) (ip : Option Ip4) → TablesAreInOrder view →
     IsSome (registration view.learnt pmac) → IsKnownAddress view.learnt pmac ip →

@@ -9,18 +9,19 @@ use Rattle.pl_frame.specs.declared.address.SwitchId.{SwitchId}
 use Rattle.pl_pmac.specs.declared.pmac.Pmac.{Pmac}
 use Rattle.pl_layouts.specs.Equality.{same_pmac, same_switch}
 use Rattle.pl_layouts.proofs.Exports.{switch_itself}
+use Rattle.pl_gathering.specs.Gathering.{Heard}
 use Rattle.pl_node.specs.declared.messages.ToManager.{ToManager}
 use Rattle.pl_node.specs.declared.messages.ToManager.TheVariants as tell
 use Rattle.pl_node.specs.declared.pod_given.PodGiven.{PodGiven}
-use Rattle.pl_node.specs.ManagerViews.{Learnt, LearntAddress, ManagerView, Registration, id_cmp, is_heard, is_newest_of, link_cmp, members_cmp, newest, Told, first_free, registered_as, registration, speakers, switches, tellers}
+use Rattle.pl_node.specs.ManagerViews.{Learnt, LearntAddress, ManagerView, Registration, Reported, id_cmp, is_heard, is_newest_of, link_cmp, members_cmp, newest, Told, first_free, registered_as, registration, reporters, speakers, switches, tellers}
 use Rattle.pl_node.proofs.Exports.{among_append, among_filter, among_left, among_map, among_mapped, among_ordered, among_right, any_among, IsAmong}
 use Rattle.pl_manager_rule.specs.ManagerRule.{ToldAddress, ages_now, hears_aged, is_registered, learnt_as, recalled, told_again, view_after, with_address, with_asker}
-use Rattle.pl_manager_rule.proofs.Aging.{aged_keeps}
+use Rattle.pl_manager_rule.proofs.Aging.{aged_keeps, aged_reported}
 use Rattle.pl_manager_rule.proofs.Tables.{among_put}
 use Rattle.pl_manager_rule.proofs.Avoided.{same_is}
 use Rattle.pl_manager_rule.proofs.Learning.{same_field, same_recalled}
 
-found_among : {X : Type 0} (test : X → Bool) (x : X) (xs : List X) → find test xs ≡ Some x → IsAmong x xs
+pub found_among : {X : Type 0} (test : X → Bool) (x : X) (xs : List X) → find test xs ≡ Some x → IsAmong x xs
 found_among test x [] h = let none : None ≡ Some x = h in cc
 found_among test x (y ∷ xs) h = by (λ k. found_among test x xs k) (test y) h
   where
@@ -29,10 +30,10 @@ found_among test x (y ∷ xs) h = by (λ k. found_among test x xs k) (test y) h
     by rest false k = inr (rest k)
 
 -- ---- lists with one more switch at most
-abbrev IsWithOne : SwitchId → List SwitchId → List SwitchId → Type 0
+abbrev pub IsWithOne : SwitchId → List SwitchId → List SwitchId → Type 0
 IsWithOne s after before = (t : SwitchId) → IsAmong t after → (s ≡ t) ⊎ IsAmong t before
 
-same_ones : (s : SwitchId) (xs : List SwitchId) → IsWithOne s xs xs
+pub same_ones : (s : SwitchId) (xs : List SwitchId) → IsWithOne s xs xs
 same_ones s xs t h = inr h
 
 both_ones : (s : SwitchId) (xs ys us vs : List SwitchId) → IsWithOne s xs us → IsWithOne s ys vs → IsWithOne s (xs ++ ys) (us ++ vs)
@@ -98,12 +99,31 @@ module _ (view : ManagerView) (s : SwitchId) where
   abbrev learners : List SwitchId
   learners = map (λ a. a.switch) view.learnt.addresses
 
-  with_one : (ps ls ms qs rs : List SwitchId) → IsWithOne s ps places → IsWithOne s ls links → IsWithOne s ms members →
-      IsWithOne s qs askers → IsWithOne s rs learners → IsWithOne s ((ps ++ ls) ++ (ms ++ (qs ++ rs))) (speakers view)
-  with_one ps ls ms qs rs p l m a r =
-      both_ones s (ps ++ ls) (ms ++ (qs ++ rs)) (places ++ links) (members ++ (askers ++ learners))
+  abbrev reported_by : List SwitchId
+  reported_by = map (λ r. r.switch) view.learnt.reported
+
+  abbrev gathered_of : List SwitchId
+  gathered_of = view.begun ++ map (λ h. h.switch) view.kept
+
+  with_reported : (ps ls ms qs rs ts : List SwitchId) → IsWithOne s ps places → IsWithOne s ls links → IsWithOne s ms members →
+      IsWithOne s qs askers → IsWithOne s rs learners → IsWithOne s ts reported_by →
+      IsWithOne s ((ps ++ ls) ++ (ms ++ (qs ++ (rs ++ (ts ++ gathered_of))))) (speakers view)
+  with_reported ps ls ms qs rs ts p l m a r t =
+      both_ones s (ps ++ ls) (ms ++ (qs ++ (rs ++ (ts ++ gathered_of)))) (places ++ links) (members ++ (askers ++ (learners ++ reporters view)))
       (both_ones s ps ls places links p l)
-      (both_ones s ms (qs ++ rs) members (askers ++ learners) m (both_ones s qs rs askers learners a r))
+      (both_ones s ms (qs ++ (rs ++ (ts ++ gathered_of))) members (askers ++ (learners ++ reporters view)) m
+      (both_ones s qs (rs ++ (ts ++ gathered_of)) askers (learners ++ reporters view) a
+      (both_ones s rs (ts ++ gathered_of) learners (reporters view) r
+      (both_ones s ts gathered_of reported_by gathered_of t (same_ones s gathered_of)))))
+
+  with_one : (ps ls ms qs rs : List SwitchId) → IsWithOne s ps places → IsWithOne s ls links → IsWithOne s ms members →
+      IsWithOne s qs askers → IsWithOne s rs learners → IsWithOne s ((ps ++ ls) ++ (ms ++ (qs ++ (rs ++ reporters view)))) (speakers view)
+  with_one ps ls ms qs rs p l m a r = with_reported ps ls ms qs rs reported_by p l m a r (same_ones s reported_by)
+
+  -- what was learnt of addresses becomes another
+  pub learnt_ones : (learnt : Learnt) → IsWithOne s (map (λ a. a.switch) learnt.addresses) learners → IsWithOne s (map (λ r. r.switch) learnt.reported) reported_by →
+      IsWithOne s (speakers (record view { learnt = learnt })) (speakers view)
+  learnt_ones learnt = with_reported places links members askers _ _ (same_ones s places) (same_ones s links) (same_ones s members) (same_ones s askers)
 
   pub speakers_after : (says : ToManager) → IsWithOne s (speakers (view_after view s says)) (speakers view)
   speakers_after (tell.Place place) =
@@ -120,9 +140,8 @@ module _ (view : ManagerView) (s : SwitchId) where
       (same_ones s links) (same_ones s members) (same_ones s askers)
       (address_ones view.learnt (record { switch = s; pmac = pmac; amac = amac; ip = ip }))
   speakers_after (tell.Aged pmac number) =
-      with_one places links members askers _ (same_ones s places)
-      (same_ones s links) (same_ones s members) (same_ones s askers)
-      (λ t h. inr (aged_tellers view.learnt pmac number t h))
+      learnt_ones (hears_aged view.learnt pmac number).learnt (λ t h. inr (aged_tellers view.learnt pmac number t h))
+      (λ t h. inr (subst (λ (rs : List Reported). IsAmong t (map (λ r. r.switch) rs)) (aged_reported view.learnt pmac number) h))
   speakers_after (tell.Begin epoch) = same_ones s (speakers view)
   speakers_after (tell.End epoch) = same_ones s (speakers view)
   speakers_after (tell.Trapped trapped toward numbered) = same_ones s (speakers view)
@@ -144,8 +163,71 @@ module _ (view : ManagerView) (s : SwitchId) where
   listed_is_heard says t h =
       let after = view_after view s says in
       now_or_before t (speakers_after says t
-      (among_left t (tellers after.told) (map (λ m. m.0.0) after.members ++ (map (λ g. g.switch) after.pods ++ map (λ a. a.switch) after.learnt.addresses))
+      (among_left t (tellers after.told)
+      (map (λ m. m.0.0) after.members ++ (map (λ g. g.switch) after.pods ++ (map (λ a. a.switch) after.learnt.addresses ++ reporters after)))
       (among_ordered id_cmp t (tellers after.told) h)))
+
+pub reporter_speaks : (view : ManagerView) (t : SwitchId) → IsAmong t (reporters view) → IsAmong t (speakers view)
+reporter_speaks view t h =
+    let members : List SwitchId = map (λ m. m.0.0) view.members in
+    let askers : List SwitchId = map (λ g. g.switch) view.pods in
+    let learners : List SwitchId = map (λ a. a.switch) view.learnt.addresses in
+    among_right t (tellers view.told) (members ++ (askers ++ (learners ++ reporters view)))
+    (among_right t members (askers ++ (learners ++ reporters view)) (among_right t askers (learners ++ reporters view) (among_right t learners (reporters view) h)))
+
+pub learner_speaks : (view : ManagerView) (t : SwitchId) → IsAmong t (map (λ a. a.switch) view.learnt.addresses) → IsAmong t (speakers view)
+learner_speaks view t h =
+    let members : List SwitchId = map (λ m. m.0.0) view.members in
+    let askers : List SwitchId = map (λ g. g.switch) view.pods in
+    let learners : List SwitchId = map (λ a. a.switch) view.learnt.addresses in
+    among_right t (tellers view.told) (members ++ (askers ++ (learners ++ reporters view)))
+    (among_right t members (askers ++ (learners ++ reporters view)) (among_right t askers (learners ++ reporters view) (among_left t learners (reporters view) h)))
+
+-- what spoke once the gathering is another one: what it has now, or what spoke before
+pub spoke_or_gathered : (view : ManagerView) (epoch : ℕ) (begun ended : List SwitchId) (kept : List (Heard ToManager)) (t : SwitchId) →
+    IsAmong t (speakers (record view { epoch = epoch; begun = begun; ended = ended; kept = kept })) →
+    IsAmong t (begun ++ map (λ h. h.switch) kept) ⊎ IsAmong t (speakers view)
+spoke_or_gathered view epoch begun ended kept t h =
+    let told : List SwitchId = tellers view.told in
+    let members : List SwitchId = map (λ m. m.0.0) view.members in
+    let askers : List SwitchId = map (λ g. g.switch) view.pods in
+    let learners : List SwitchId = map (λ a. a.switch) view.learnt.addresses in
+    let reported : List SwitchId = map (λ r. r.switch) view.learnt.reported in
+    let was : List SwitchId = view.begun ++ map (λ h. h.switch) view.kept in
+    let now : List SwitchId = begun ++ map (λ h. h.switch) kept in
+    split told (members ++ (askers ++ (learners ++ (reported ++ now)))) (members ++ (askers ++ (learners ++ (reported ++ was)))) (
+    split members (askers ++ (learners ++ (reported ++ now))) (askers ++ (learners ++ (reported ++ was))) (
+    split askers (learners ++ (reported ++ now)) (learners ++ (reported ++ was)) (
+    split learners (reported ++ now) (reported ++ was) (split reported now was (λ k. inl k))))) h
+  where
+    split : (front now was : List SwitchId) → (IsAmong t now → IsAmong t (begun ++ map (λ h. h.switch) kept) ⊎ IsAmong t was) → IsAmong t (front ++ now) →
+        IsAmong t (begun ++ map (λ h. h.switch) kept) ⊎ IsAmong t (front ++ was)
+    split front now was rest h = elim (among_append t front now h) [
+      | inl left ↦ inr (among_left t front was left)
+      | inr right ↦ elim (rest right) [ inl gathered ↦ inl gathered | inr before ↦ inr (among_right t front was before) ]
+    ]
+
+-- where fewer switches told addresses no more spoke
+module _ (view : ManagerView) (learnt : Learnt) (t : SwitchId) where
+  both_fewer : (xs ys us vs : List SwitchId) → (IsAmong t xs → IsAmong t us) → (IsAmong t ys → IsAmong t vs) → IsAmong t (xs ++ ys) → IsAmong t (us ++ vs)
+  both_fewer xs ys us vs f g h = elim (among_append t xs ys h) [ inl left ↦ among_left t us vs (f left) | inr right ↦ among_right t us vs (g right) ]
+
+  pub fewer_learnt : (IsAmong t (map (λ a. a.switch) learnt.addresses) → IsAmong t (map (λ a. a.switch) view.learnt.addresses)) →
+      (IsAmong t (map (λ r. r.switch) learnt.reported) → IsAmong t (map (λ r. r.switch) view.learnt.reported)) →
+      IsAmong t (speakers (record view { learnt = learnt })) → IsAmong t (speakers view)
+  fewer_learnt addresses reported =
+      let told : List SwitchId = tellers view.told in
+      let members : List SwitchId = map (λ m. m.0.0) view.members in
+      let askers : List SwitchId = map (λ g. g.switch) view.pods in
+      let gathers : List SwitchId = view.begun ++ map (λ h. h.switch) view.kept in
+      both_fewer told _ told _ (λ k. k) (both_fewer members _ members _ (λ k. k) (both_fewer askers _ askers _ (λ k. k)
+      (both_fewer (map (λ a. a.switch) learnt.addresses) (map (λ r. r.switch) learnt.reported ++ gathers) (map (λ a. a.switch) view.learnt.addresses)
+      (map (λ r. r.switch) view.learnt.reported ++ gathers) addresses
+      (both_fewer (map (λ r. r.switch) learnt.reported) gathers (map (λ r. r.switch) view.learnt.reported) gathers reported (λ k. k)))))
+
+-- what the gathering has spoke
+pub gathered_speaks : (view : ManagerView) (t : SwitchId) → IsAmong t (view.begun ++ map (λ h. h.switch) view.kept) → IsAmong t (speakers view)
+gathered_speaks view t h = reporter_speaks view t (among_right t (map (λ r. r.switch) view.learnt.reported) (view.begun ++ map (λ h. h.switch) view.kept) h)
 
 pub known_among : (t : SwitchId) (xs : List SwitchId) → list_any (λ c. same_switch c t) xs ≡ true → IsAmong t xs
 known_among t [] h = absurd (cc)

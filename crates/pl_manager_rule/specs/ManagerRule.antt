@@ -1,4 +1,4 @@
--- What the fabric manager does when it hears a switch.
+-- What the fabric manager does when it hears a switch, in its first epoch. What it does in all of them is in WholeRule, over this.
 use Rattle.std.specs.Prelude.{◌≡◌, ℕ, ◌+◌, ◌==◌, ◌&&◌, ◌||◌, not, is_some, Bool, true, false, if◌then◌else◌, List, [], ◌∷◌, ◌++◌, map, Option, Some, None, unwrap_or}
 use Rattle.std.specs.List.{filter, flat_map, list_any}
 use Rattle.std.specs.Option.{option_map, option_or}
@@ -86,7 +86,7 @@ with_owner owners (Some ip) amac = insert_entry ip_cmp owners ip amac
 
 -- what was learnt of addresses once this is told
 abbrev pub with_learnt : Learnt → ToldAddress → Learnt
-with_learnt learnt new = record {
+with_learnt learnt new = record learnt {
   addresses = with_address learnt new;
   owners = with_owner learnt.owners new.ip (host_of learnt new);
   count = if is_registered learnt.addresses new.pmac then learnt.count else learnt.count + 1;
@@ -237,6 +237,6 @@ acts_of before after s says = reply before after s says ++ avoid_acts before.tol
 unfoldable pub manager_hears : ManagerView → SwitchId → ToManager → ManagerStep
 manager_hears view s says = record { view = view_after view s says; acts = acts_of view (view_after view s says) s says }
 
--- the rule of this fabric manager: just that step
+-- the rule of this fabric manager in its first epoch: just that step
 abbrev pub manager_rule : ManagerRule
 manager_rule before s says after acts = (after ≡ (manager_hears before s says).view) × (acts ≡ (manager_hears before s says).acts)

@@ -17,6 +17,7 @@ ghost use Rattle.pl_pmac.specs.declared.pmac.Pmac.{Pmac};
 ghost use Rattle.pl_manager_rule.specs.Histories.{Word, if_still, ip_since, known, link_said, members_said, numbered, owner_told, place_said, pods_asked, registered, said_by, said_last};
 ghost use Rattle.pl_gathering.specs.Acting.{treats_all};
 ghost use Rattle.pl_manager_rule.specs.Treating.{at_rest, follows, treats};
+ghost use Rattle.pl_manager_rule.specs.WholeRule.{manager_steps, whole_rule};
 ghost use Rattle.pl_manager_rule.specs.Repeats.{CanBeRepeated, HasToldLast, TablesAreInOrder, answers};
 ghost use Rattle.pl_node.specs.declared.messages.ToManager.{ToManager};
 ghost use Rattle.pl_node.specs.ManagerFacts.{groups};
@@ -73,9 +74,10 @@ pub fn a_pod_is_free_when_it_is_given()
 {}
 
 /// The manager sends messages to switches that it heard before, and to the one that speaks; and it
-/// numbers just the addresses that it learns.
+/// numbers just the addresses that it learns. So it does in its first epoch, and in all of them.
 pub fn the_manager_answers_duly()
-    ensures { AnswersDuly manager_rule }
+    ensures first { AnswersDuly manager_rule }
+    ensures whole { AnswersDuly whole_rule }
 {}
 
 /// What the manager knows is in order from the beginning, and stays so with all that it hears.
@@ -95,10 +97,22 @@ pub fn a_repeated_word_changes_nothing()
     ensures last { (view : ManagerView) (s : SwitchId) (says : ToManager) → CanBeRepeated says → HasToldLast (manager_hears view s says).view s says }
 {}
 
-/// A word that is treated alone, and what follows from it, are what the manager does when it hears that word.
+/// In the first epoch a word that is treated alone, and what follows from it, are what the manager does when
+/// it hears that word: where no address is known by a report alone, of which there are none then.
 pub fn a_word_is_treated_alone_as_it_is_heard()
-    ensures { (view : ManagerView) (s : SwitchId) (says : ToManager) → treats_all treats follows (at_rest view) (record { switch = s; word = says } ∷ [])
+    ensures { (view : ManagerView) (s : SwitchId) (says : ToManager) → view.epoch ≡ 0 → view.learnt.reported ≡ [] →
+        treats_all treats follows (at_rest view) (record { switch = s; word = says } ∷ [])
         ≡ record { known = at_rest (manager_hears view s says).view; acts = (manager_hears view s says).acts } }
+{}
+
+/// So over all epochs the manager does in the first one what its rule of one epoch says, word by word, and
+/// neither begins anew nor hears of an address by a report alone.
+pub fn the_first_epoch_goes_by_the_rule_of_one()
+    ensures step { (view : ManagerView) (s : SwitchId) (says : ToManager) → view.epoch ≡ 0 → view.learnt.reported ≡ [] →
+        manager_steps view s says ≡ manager_hears view s says }
+    ensures epoch { (view : ManagerView) (s : SwitchId) (says : ToManager) → (manager_hears view s says).view.epoch ≡ view.epoch }
+    ensures reported { (view : ManagerView) (s : SwitchId) (says : ToManager) →
+        (manager_hears view s says).view.learnt.reported ≡ view.learnt.reported }
 {}
 
 /// What the manager knows, however long its history, is the last that was said of each place, link and group;

@@ -5,7 +5,7 @@ pub use Rattle.pl_node.proofs.Among.{all_among, among_append, among_filter, amon
 pub use Rattle.pl_node.proofs.AvoidOrder.{avoided_exact, avoided_total, both_equal, id_exact}
 pub use Rattle.pl_node.proofs.AvoidRows.{is_itself, is_same, of_number, same_test}
 pub use Rattle.pl_node.proofs.Booted.{booted_is_shaped, unheld}
-pub use Rattle.pl_node.proofs.Numbered.{nothing_numbered}
+pub use Rattle.pl_node.proofs.Numbered.{nothing_learnt, nothing_numbered, nothing_registered}
 pub use Rattle.pl_node.proofs.Ports.{aged_at, closed_by, direction_low, heard_aged}
 pub use Rattle.pl_node.proofs.Ordering.{few_in_order, same_order, same_rising}
 pub use Rattle.pl_node.proofs.Shown.{all_shown}

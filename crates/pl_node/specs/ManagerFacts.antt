@@ -1,5 +1,5 @@
 -- What is asked of the fabric manager from outside, by what it knows.
-use Rattle.std.specs.Prelude.{ℕ, ◌*◌, ◌/◌, ◌<◌, ◌≤◌, List, ◌∷◌, length, map, Option, slice_get}
+use Rattle.std.specs.Prelude.{ℕ, ◌+◌, ◌*◌, ◌/◌, ◌<◌, ◌≤◌, List, ◌∷◌, length, map, Option, slice_get}
 use Rattle.std.specs.BTreeSet.{insert_key}
 use Rattle.std.specs.Option.{option_map}
 use Rattle.std.specs.Ordering.{nat_cmp}
@@ -7,8 +7,8 @@ use Rattle.pl_frame.specs.declared.address.Mac.{Mac}
 use Rattle.pl_frame.specs.declared.address.SwitchId.{SwitchId}
 use Rattle.pl_pmac.specs.declared.pmac.Pmac.{Pmac}
 use Rattle.pl_layouts.specs.Memberships.{flood}
-use Rattle.pl_node.specs.ManagerDuties.{with_number}
-use Rattle.pl_node.specs.ManagerViews.{Learnt, ManagerView, Members, id_cmp, in_order, newest, speakers}
+use Rattle.pl_node.specs.ManagerDuties.{load, with_number}
+use Rattle.pl_node.specs.ManagerViews.{Learnt, ManagerView, Members, id_cmp, in_order, newest, numbers_before, speakers}
 
 -- the switches that were heard, by rising id
 abbrev pub heard : ManagerView → List SwitchId
@@ -18,10 +18,10 @@ heard view = in_order id_cmp (speakers view)
 abbrev pub switch_count : ℕ → ℕ
 switch_count k = 5 * k * k / 4
 
--- With this switch no more were heard than a tree has, and there is a number for one more address.
+-- With this switch no more were heard than a tree has, and its epoch has a number for one more address than those that are learnt and kept.
 pub record CanHear (view : ManagerView) (s : SwitchId) : Type 0 where
   pub switches : length (insert_key id_cmp (heard view) s) ≤ switch_count view.k
-  pub addresses : view.learnt.count < 4294967295
+  pub addresses : load view + 1 < numbers_before (view.epoch + 1)
 
 -- the newest address of an actual address, and its registration number
 abbrev pub newest_and_number : Learnt → Mac → Option (Pmac × ℕ)

@@ -1,6 +1,6 @@
 -- What the fabric manager knows: what each switch told last of each thing, who asked for the number of a pod, and the addresses that it
 -- learnt. A later word takes the place of an earlier one on the same thing, and all answers are functions of what is known then.
-use Rattle.std.specs.Prelude.{ℕ, ◌+◌, ◌==◌, ◌&&◌, ◌||◌, Bool, false, if◌then◌else◌, List, [], ◌∷◌, ◌++◌, length, map, not, Option, Some, None, is_none, unwrap_or}
+use Rattle.std.specs.Prelude.{ℕ, ◌+◌, ◌*◌, ◌==◌, ◌&&◌, ◌||◌, Bool, false, if◌then◌else◌, List, [], ◌∷◌, ◌++◌, length, map, not, Option, Some, None, is_none, unwrap_or}
 use Rattle.std.specs.List.{filter, filter_map, find, list_any, range_with_len}
 use Rattle.std.specs.Map as table
 use Rattle.std.specs.Option.{option_and_then, option_map}
@@ -13,6 +13,8 @@ use Rattle.pl_frame.specs.declared.address.Ip4.{Ip4}
 use Rattle.pl_frame.specs.declared.address.SwitchId.{SwitchId}
 use Rattle.pl_pmac.specs.declared.pmac.Pmac.{Pmac}
 use Rattle.pl_layouts.specs.declared.place.Place.{Place}
+use Rattle.pl_gathering.specs.Gathering.{Heard}
+use Rattle.pl_node.specs.declared.messages.ToManager.{ToManager}
 use Rattle.pl_node.specs.declared.pod_given.PodGiven.{PodGiven}
 use Rattle.pl_layouts.specs.Equality.{same_mac, same_pmac, same_switch}
 use Rattle.pl_layouts.specs.Placement.{is_known, nowhere}
@@ -47,16 +49,26 @@ pub record LearntAddress : Type 0 where
   -- it was told to have aged since then
   pub aged : Bool
 
+-- An address of which a manager that began anew has no registration, and of which a switch told it that a trap stands for it, or that it has aged.
+pub record Reported : Type 0 where
+  pub switch : SwitchId
+  pub pmac : Pmac
+  pub recall : Option Recall
+  pub aged : Bool
+
 -- what was learnt of addresses
 pub record Learnt : Type 0 where
   -- each once, the newest first; one that was released is not among them any more
   pub addresses : List LearntAddress
+  -- those that are known by a report alone, the newest last
+  pub reported : List Reported
   -- the actual address of the host with whose pseudo address an IPv4 address was told last, by rising IPv4 address
   pub owners : List (Ip4 × Mac)
-  -- how many addresses were learnt since boot, with those that were released
+  -- the number that was given last: each manager begins with its own 2^32 numbers, and the first with 1
   pub count : ℕ
 
--- all that the manager knows
+-- All that the manager knows, what it keeps, and of whom it heard a report. It begins anew with each epoch, of which the first is 0, and in each but the
+-- first it treats nothing before the report of each switch has ended.
 pub record ManagerView : Type 0 where
   -- of a fabric of switches of so many ports
   pub k : ℕ
@@ -65,26 +77,49 @@ pub record ManagerView : Type 0 where
   -- the switches that asked for the number of a pod, with what they were given, each once, the newest first
   pub pods : List PodGiven
   pub learnt : Learnt
+  pub epoch : ℕ
+  -- whose report of this epoch began, and ended, each once, the newest first
+  pub begun : List SwitchId
+  pub ended : List SwitchId
+  -- what came since, until the last of them ends, in the order of coming
+  pub kept : List (Heard ToManager)
 
--- at first it knows nothing
-abbrev pub booted_manager : ℕ → ManagerView
-booted_manager k = record {
+-- the number before the first one of an epoch
+abbrev pub numbers_before : ℕ → ℕ
+numbers_before epoch = epoch * 4294967296
+
+-- a manager that begins anew knows nothing
+abbrev pub restarted_manager : ℕ → ℕ → ManagerView
+restarted_manager k epoch = record {
   k = k;
   told = record { places = []; links = [] };
   members = [];
   pods = [];
-  learnt = record { addresses = []; owners = []; count = 0 };
+  learnt = record { addresses = []; reported = []; owners = []; count = numbers_before epoch };
+  epoch = epoch;
+  begun = [];
+  ended = [];
+  kept = [];
 }
+
+-- at first it knows nothing
+abbrev pub booted_manager : ℕ → ManagerView
+booted_manager k = restarted_manager k 0
 
 -- the switches that told a place or a link, each as often as something is known of it
 abbrev pub tellers : Told → List SwitchId
 tellers told = map (λ p. p.0) told.places ++ map (λ l. l.0.0) told.links
 
+-- the switches whose report of this epoch began, or of which something is kept or is known by a report alone
+abbrev pub reporters : ManagerView → List SwitchId
+reporters view = map (λ r. r.switch) view.learnt.reported ++ (view.begun ++ map (λ h. h.switch) view.kept)
+
 -- the same of all that switches tell
 abbrev pub speakers : ManagerView → List SwitchId
-speakers view = tellers view.told ++ (map (λ m. m.0.0) view.members ++ (map (λ g. g.switch) view.pods ++ map (λ a. a.switch) view.learnt.addresses))
+speakers view =
+    tellers view.told ++ (map (λ m. m.0.0) view.members ++ (map (λ g. g.switch) view.pods ++ (map (λ a. a.switch) view.learnt.addresses ++ reporters view)))
 
--- a switch was heard where something that it told is known; one that only asked a question is not among them
+-- a switch was heard where something that it told is known or kept, or its report began; one that only asked a question is not among them
 abbrev pub is_heard : ManagerView → SwitchId → Bool
 is_heard view s = list_any (λ t. same_switch t s) (speakers view)
 

@@ -1,10 +1,10 @@
-ghost use Rattle.std.specs.Prelude.{◌≡◌, ◌↔◌, IfOk, OnOk, IsTrue};
+ghost use Rattle.std.specs.Prelude.{◌≡◌, ◌↔◌, IfOk, OnOk, IsTrue, length};
 ghost use Rattle.std.specs.Option.{option_copied};
 ghost use Rattle.pl_node.specs.AvoidLists.{avoid_list};
 ghost use Rattle.pl_node.specs.Gains.{Gains};
 ghost use Rattle.pl_node.specs.ManagerFacts.{CanHear, group_at, newest_and_number};
 ghost use Rattle.pl_node.specs.ManagerDuties.{AnswersDuly, ManagerRule};
-ghost use Rattle.pl_node.specs.ManagerViews.{ManagerView, booted_manager, is_told_usable, lookup, place_of};
+ghost use Rattle.pl_node.specs.ManagerViews.{ManagerView, booted_manager, is_told_usable, lookup, place_of, restarted_manager};
 ghost use Rattle.pl_node.specs.SwitchFacts.{IsTreeSize};
 ghost use Rattle.pl_node.specs.Trees.{tree_part};
 
@@ -15,7 +15,7 @@ use pl_pmac::Pmac;
 use std::alloc::Global;
 
 /// The software of the fabric manager. After want of memory neither the manager nor the outbox is used
-/// again. Only `boot` and `hears` take memory.
+/// again. Only `boot`, `restart` and `hears` take memory.
 pub trait ManagerLogic: Drop {
     ghost view: { Self → ManagerView };
 
@@ -27,6 +27,12 @@ pub trait ManagerLogic: Drop {
         requires { IsTreeSize k }
         ensures { IfOk result (λ logic. view logic ≡ booted_manager k) };
 
+    /// It begins anew, for the time of this number: it was told nothing, and hears the report of each switch
+    /// before it treats a word.
+    fn restart(&mut self, alloc: Global, epoch: u32) -> Result<(), Memory>
+        ensures anew { OnOk result (view self.new ≡ restarted_manager (view self.old).k epoch) }
+        ensures k { (view self.new).k ≡ (view self.old).k };
+
     /// A message of a switch comes. Its acts are put behind those that are in the outbox.
     fn hears(
         &mut self,
@@ -37,6 +43,14 @@ pub trait ManagerLogic: Drop {
         requires { CanHear (view self.old) switch }
         ensures step { OnOk result (Gains out.old out.new (rule (view self.old) switch says.now (view self.new))) }
         ensures k { (view self.new).k ≡ (view self.old).k };
+
+    /// How often it began anew.
+    fn epoch(&self) -> u32
+        ensures { result ≡ (view self.now).epoch };
+
+    /// How many switches' reports have ended since it began anew.
+    fn reported(&self) -> usize
+        ensures { result ≡ length (view self.now).ended };
 
     /// The newest pseudo address of the host that has an IPv4 address; none where that was never learnt.
     fn lookup(&self, ip: Ip4) -> Option<Pmac>

@@ -3,7 +3,6 @@ ghost use Rattle.std.specs.BTreeSet.{insert_key};
 ghost use Rattle.std.specs.Ordering.{nat_cmp};
 ghost use Rattle.pl_node.specs.PortRecords.{is_usable, ports_where};
 ghost use Rattle.pl_node.specs.SwitchViews.{SwitchView};
-ghost use Rattle.pl_layouts.specs.Placement.{same_number, same_place};
 ghost use Rattle.pl_lists.specs.Ports.{ports_of};
 ghost use Rattle.pl_switch_rule.specs.Telling.{changes_told, place_told, pod_wanted};
 ghost use Rattle.pl_ports.specs.Changes.{ceases};
@@ -13,7 +12,7 @@ ghost use Rattle.pl_ports.specs.Standings.{IsStandingOf};
 use crate::{Ports, Standing};
 use pl_layouts::Place;
 use pl_lists::PortSet;
-use pl_node::{Act, Memory, Outbox, ToManager};
+use pl_node::{Act, Memory, Outbox, ToManager, is_same_place};
 use pl_steps::{TellsAtPort, tell_at_each_port};
 
 impl Ports {
@@ -128,32 +127,4 @@ fn want_pod(old: Place, new: Place, out: &mut Outbox) -> Result<(), Memory>
         return out.push(Act::Tell(ToManager::PodWanted));
     }
     Ok(())
-}
-
-fn is_same_place(a: Place, b: Place) -> bool
-    ensures { result ≡ same_place a b }
-{
-    is_same_number(a.level, b.level)
-        && is_same_number(a.position, b.position)
-        && is_same_pod(a.pod, b.pod)
-}
-
-fn is_same_number(a: Option<u8>, b: Option<u8>) -> bool
-    ensures { result ≡ same_number a b }
-{
-    match (a, b) {
-        (Some(a), Some(b)) => a == b,
-        (None, None) => true,
-        _ => false,
-    }
-}
-
-fn is_same_pod(a: Option<u16>, b: Option<u16>) -> bool
-    ensures { result ≡ same_number a b }
-{
-    match (a, b) {
-        (Some(a), Some(b)) => a == b,
-        (None, None) => true,
-        _ => false,
-    }
 }

@@ -3,6 +3,7 @@ pub mod Indices
 pub mod NextBits
 pub mod Marks
 pub mod QueueArrays
+pub mod Clearing
 pub mod Ranges
 pub mod TallySums
 pub mod TallyChanges

@@ -16,6 +16,10 @@ module _ {T : Type 0} where
   marks-changed marks queues at queue b marked here =
       ap (λ m. slice_set m at b) marked ∙ ap (λ c. slice_set (map has_items queues) at c) (sym here) ∙ sym (map-set has_items queues at queue)
 
+  -- a queue is emptied, and its mark is cleared
+  pub marks_emptied : (marks : List Bool) (queues : List (List T)) (at : ℕ) → marks ≡ map has_items queues → slice_set marks at false ≡ map has_items (slice_set queues at [])
+  marks_emptied marks queues at marked = marks-changed marks queues at [] false marked refl
+
   -- a queue changes that had items and still has them
   marks-kept : (marks : List Bool) (queues : List (List T)) (at : ℕ) (queue : List T)
       → marks ≡ map has_items queues → has_items (items_at queues at) ≡ has_items queue → marks ≡ map has_items (slice_set queues at queue)

@@ -67,6 +67,14 @@ impl<T: Counted> CountedQueues<T> {
 }
 
 impl<T: Counted + Drop> CountedQueues<T> {
+    /// Takes all items of all queues away.
+    pub fn clear(&mut self)
+        ensures { self.new ≡ replicate (length self.old) [] }
+    {
+        self.queues.clear();
+        self.counted = 0;
+    }
+
     /// As many empty queues as asked for.
     pub fn new(alloc: Global, count: usize) -> Result<CountedQueues<T>, Memory>
         ensures { IfOk result (λ queue_array. queue_array ≡ replicate count []) }

@@ -76,6 +76,14 @@ impl<T> Lists<T> {
 }
 
 impl<T: Drop> Lists<T> {
+    /// Takes all items of a list away.
+    pub(crate) fn clear_at(&mut self, at: usize)
+        requires { at < length self.old }
+        ensures { self.new ≡ slice_set self.old at [] }
+    {
+        self.lists[at].clear();
+    }
+
     /// As many empty lists as asked for.
     pub(crate) fn new(alloc: Global, count: usize) -> Result<Lists<T>, Memory>
         ensures { IfOk result (λ all. all ≡ replicate count []) }

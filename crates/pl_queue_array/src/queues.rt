@@ -115,6 +115,25 @@ impl<T> Queues<T> {
 }
 
 impl<T: Drop> Queues<T> {
+    // Takes all items of a queue away.
+    #[tactic(auto, using(crate::proofs::QueueArrays::marks_emptied))]
+    fn clear_at(&mut self, at: usize)
+        requires { at < length self.old }
+        ensures { self.new ≡ slice_set self.old at [] }
+    {
+        self.queues.clear_at(at);
+        self.filled.remove(at);
+    }
+
+    /// Takes all items of all queues away.
+    pub fn clear(&mut self)
+        ensures { self.new ≡ replicate (length self.old) [] }
+    {
+        for at in 0..self.queues.len() {
+            self.clear_at(at);
+        }
+    }
+
     /// As many empty queues as asked for.
     pub fn new(alloc: Global, count: usize) -> Result<Queues<T>, Memory>
         ensures { IfOk result (λ queue_array. queue_array ≡ replicate count []) }

@@ -11,7 +11,7 @@ one_more n false = refl
 
 -- so what was learnt is counted
 pub is_with_learnt : (before : Learnt) (new : ToldAddress) (is_new : Bool) → is_new ≡ not (is_registered before.addresses new.pmac) →
-    let after : Learnt = record {
+    let after : Learnt = record before {
       addresses = with_address_as (before.count + 1) (learnt_of before.addresses) new;
       owners = with_owner before.owners new.ip (host_of (learnt_of before.addresses) new);
       count = cond is_new (before.count + 1) before.count;
@@ -20,7 +20,7 @@ pub is_with_learnt : (before : Learnt) (new : ToldAddress) (is_new : Bool) → i
 is_with_learnt before new is_new is =
     let counted : cond is_new (before.count + 1) before.count ≡ cond (is_registered before.addresses new.pmac) before.count (before.count + 1) =
     ap (λ b. cond b (before.count + 1) before.count) is ∙ one_more before.count (is_registered before.addresses new.pmac) in
-    λ i. record {
+    λ i. record before {
       addresses = with_address_as (before.count + 1) (learnt_of before.addresses) new;
       owners = with_owner before.owners new.ip (host_of (learnt_of before.addresses) new);
       count = counted i;

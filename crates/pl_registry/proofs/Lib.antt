@@ -4,4 +4,5 @@ pub mod Telling
 pub mod Finding
 pub mod Counting
 pub mod Releasing
+pub mod InPlace
 pub mod Asking

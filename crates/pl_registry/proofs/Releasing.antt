@@ -1,87 +1,85 @@
--- What is released, by what is known of an address.
-use Rattle.std.proofs.Common.{◌≡◌, ◌∙◌, ◌==◌, ◌&&◌, not, ℕ, Bool, true, false, cond, List, [], ◌∷◌, ◌++◌, map, Option, Some, None, is_some, ap, sym}
-use Rattle.std.specs.List.{find}
-use Rattle.std.specs.Option.{option_and_then, option_map, unwrap_or}
+-- What is known of an address, registered or by a report alone, and what is released by it.
+use Rattle.std.proofs.Common.{◌≡◌, ◌∙◌, ◌&&◌, ◌||◌, not, Bool, true, false, cond, List, [], ◌∷◌, ◌++◌, map, Option, Some, None, refl, ap, sym}
+use Rattle.std.specs.List.{filter, find, list_any}
+use Rattle.std.specs.Option.{option_map, option_or}
 use Rattle.pl_pmac.specs.declared.pmac.Pmac.{Pmac}
 use Rattle.pl_layouts.specs.Equality.{same_pmac}
-use Rattle.pl_node.specs.declared.acts.ManagerAct.{ManagerAct}
 use Rattle.pl_node.specs.declared.acts.ManagerAct.TheVariants.{Say}
 use Rattle.pl_node.specs.declared.messages.ToSwitch.TheVariants as say
-use Rattle.pl_node.specs.ManagerViews.{Learnt, LearntAddress, Registration, is_led_to, number_behind, recall_of, registered_as, registration}
-use Rattle.pl_manager_rule.specs.ManagerRule.{LearntStep, ages_now, forgets, hears_aged, nothing_said, releases, releases_as, releases_both, releases_led, with_aged}
-use Rattle.pl_manager_rule.proofs.Exports.{find_mapped}
+use Rattle.pl_node.specs.ManagerViews as manager
+use Rattle.pl_node.specs.ManagerViews.{Learnt, LearntAddress, is_led_to}
+use Rattle.pl_manager_rule.specs.ManagerRule.{LearntStep, nothing_said}
+use Rattle.pl_manager_rule.specs.Reports.{as_reported, forgets_known, is_known_led_to, is_known_trapped_to, known_at, releases_as_known, releases_known}
+use Rattle.pl_manager_rule.proofs.Exports.{any_mapped, find_mapped}
 use Rattle.pl_registry.specs.declared.addresses.Known.{Known}
-use Rattle.pl_registry.specs.Addresses.{learnt_at}
-use Rattle.pl_registry.specs.Addresses as table
+use Rattle.pl_registry.specs.declared.reports.Reported.{Reported}
+use Rattle.pl_registry.specs.Addresses.{learnt_at, learnt_of}
+use Rattle.pl_registry.specs.Reports.{registered_report, reported_of}
+
+find_both : {X : Type 0} (test : X → Bool) (xs ys : List X) → find test (xs ++ ys) ≡ option_or (find test xs) (find test ys)
+find_both test [] ys = refl
+find_both test (x ∷ xs) ys = by (test x) (find_both test xs ys)
+  where
+    by : (b : Bool) → find test (xs ++ ys) ≡ option_or (find test xs) (find test ys) →
+        cond b (Some x) (find test (xs ++ ys)) ≡ option_or (cond b (Some x) (find test xs)) (find test ys)
+    by true rest = refl
+    by false rest = rest
+
+any_both : {X : Type 0} (test : X → Bool) (xs ys : List X) → list_any test (xs ++ ys) ≡ (list_any test xs || list_any test ys)
+any_both test [] ys = refl
+any_both test (x ∷ xs) ys = by (test x) (any_both test xs ys)
+  where
+    by : (b : Bool) → list_any test (xs ++ ys) ≡ (list_any test xs || list_any test ys) → (b || list_any test (xs ++ ys)) ≡ ((b || list_any test xs) || list_any test ys)
+    by true rest = refl
+    by false rest = rest
 
 module _ (learnt : Learnt) (x : Pmac) where
-  -- this is what is known of the address
-  abbrev pub IsAt : Option Known → Type 0
-  IsAt found = find (λ a. same_pmac a.pmac x) learnt.addresses ≡ option_map (learnt_at x) found
+  abbrev is_it : manager.Reported → Bool
+  is_it r = same_pmac r.pmac x
 
-  registered_at : (found : Option LearntAddress) → find (λ a. same_pmac a.pmac x) learnt.addresses ≡ found → registration learnt x ≡ option_map registered_as found
-  registered_at found is =
-      find_mapped (λ (r : Registration). same_pmac r.pmac x) registered_as learnt.addresses ∙ ap (option_map registered_as) is
+  known_by : (o : Option LearntAddress) → find (λ a. same_pmac a.pmac x) learnt.addresses ≡ o →
+      known_at learnt x ≡ option_or (option_map as_reported o) (find is_it learnt.reported)
+  known_by o is =
+      find_both is_it (map as_reported learnt.addresses) learnt.reported
+      ∙ ap (λ (p : Option manager.Reported). option_or p (find is_it learnt.reported)) (find_mapped is_it as_reported learnt.addresses ∙ ap (option_map as_reported) is)
+
+  -- this is what is known of the address
+  pub registered_known : (k : Known) → find (λ a. same_pmac a.pmac x) learnt.addresses ≡ option_map (learnt_at x) (Some k) →
+      Some (reported_of (registered_report x k)) ≡ known_at learnt x
+  registered_known k is = sym (known_by (Some (learnt_at x k)) is)
+
+  pub reported_known : (found : Option manager.Reported) → find (λ a. same_pmac a.pmac x) learnt.addresses ≡ None → found ≡ find is_it learnt.reported →
+      found ≡ known_at learnt x
+  reported_known found none is = is ∙ sym (known_by None none)
+
+  pub led_known : (is_led_to (learnt_of learnt.addresses) x || list_any (is_known_trapped_to x) learnt.reported) ≡ is_known_led_to learnt x
+  led_known =
+      sym (any_both (is_known_trapped_to x) (map as_reported learnt.addresses) learnt.reported
+      ∙ ap (λ b. b || list_any (is_known_trapped_to x) learnt.reported) (any_mapped (is_known_trapped_to x) as_reported learnt.addresses))
 
   -- it may be released or not
-  abbrev by_test : Bool → LearntStep
-  by_test can = cond {A = LearntStep} can (releases_as x learnt (registration learnt x)) (nothing_said learnt)
+  pub none_released : None ≡ known_at learnt x → releases_known x learnt ≡ nothing_said learnt
+  none_released none = ap (releases_as_known learnt x) (sym none)
 
-  pub none_released : IsAt None → releases x learnt ≡ nothing_said learnt
-  none_released none = ap (λ (o : Option LearntAddress). by_test (unwrap_or (option_map (λ (a : LearntAddress). a.aged) o) false && not (is_led_to learnt x))) none
+  abbrev by_test : manager.Reported → Bool → LearntStep
+  by_test known can = cond {A = LearntStep} can (record { learnt = forgets_known learnt x; acts = Say known.switch (say.Release x) ∷ [] }) (nothing_said learnt)
 
-  tested : (k : Known) → IsAt (Some k) → releases x learnt ≡ by_test (k.aged && not (is_led_to learnt x))
-  tested k is = ap (λ (o : Option LearntAddress). by_test (unwrap_or (option_map (λ (a : LearntAddress). a.aged) o) false && not (is_led_to learnt x))) is
+  pub not_released : (known : Reported) → Some (reported_of known) ≡ known_at learnt x → (known.aged && not (is_known_led_to learnt x)) ≡ false →
+      releases_known x learnt ≡ nothing_said learnt
+  not_released known is cannot = ap (releases_as_known learnt x) (sym is) ∙ ap (by_test (reported_of known)) cannot
 
-  pub not_released : (k : Known) → IsAt (Some k) → (k.aged && not (is_led_to learnt x)) ≡ false → releases x learnt ≡ nothing_said learnt
-  not_released k is cannot = tested k is ∙ ap by_test cannot
+  pub is_released : (known : Reported) → Some (reported_of known) ≡ known_at learnt x → (known.aged && not (is_known_led_to learnt x)) ≡ true →
+      releases_known x learnt ≡ record { learnt = forgets_known learnt x; acts = Say known.switch (say.Release x) ∷ [] }
+  is_released known is can = ap (releases_as_known learnt x) (sym is) ∙ ap (by_test (reported_of known)) can
 
-  pub is_released : (k : Known) → IsAt (Some k) → (k.aged && not (is_led_to learnt x)) ≡ true →
-      releases x learnt ≡ record { learnt = forgets learnt x; acts = Say k.switch (say.Release x) ∷ [] }
-  is_released k is can = tested k is ∙ ap by_test can ∙ ap (releases_as x learnt) (registered_at (Some (learnt_at x k)) is)
-
-  -- what is heard of its age
-  abbrev by_count : ℕ → Option Registration → Option LearntAddress → LearntStep
-  by_count number registered found =
-      cond {A = LearntStep} (is_some registered && (number == number_behind (option_and_then (λ (a : LearntAddress). a.recall) found)))
-      (releases_both x (option_and_then (λ (a : LearntAddress). a.recall) found) (with_aged learnt x)) (nothing_said learnt)
-
-  heard : (number : ℕ) (found : Option LearntAddress) → find (λ a. same_pmac a.pmac x) learnt.addresses ≡ found →
-      hears_aged learnt x number ≡ by_count number (option_map registered_as found) found
-  heard number found is = λ i. by_count number (registered_at found is i) (is i)
-
-  pub none_ages : (number : ℕ) → IsAt None → hears_aged learnt x number ≡ nothing_said learnt
-  none_ages number none = heard number None none
-
-  pub void_age : (number : ℕ) (k : Known) → IsAt (Some k) → (number == number_behind (option_map table.recall_of k.recall)) ≡ false →
-      hears_aged learnt x number ≡ nothing_said learnt
-  void_age number k is other =
-      heard number (Some (learnt_at x k)) is
-      ∙ ap (λ b. cond {A = LearntStep} b (releases_both x (option_map table.recall_of k.recall) (with_aged learnt x)) (nothing_said learnt)) other
-
-  pub counted_age : (number : ℕ) (k : Known) → IsAt (Some k) → (number == number_behind (option_map table.recall_of k.recall)) ≡ true →
-      hears_aged learnt x number ≡ releases_both x (option_map table.recall_of k.recall) (with_aged learnt x)
-  counted_age number k is same =
-      heard number (Some (learnt_at x k)) is
-      ∙ ap (λ b. cond {A = LearntStep} b (releases_both x (option_map table.recall_of k.recall) (with_aged learnt x)) (nothing_said learnt)) same
-
-  -- what is done where an age counts: first the address is released, and then the one to which it led
-  module _ (number : ℕ) (k : Known) (is : IsAt (Some k)) (same : (number == number_behind (option_map table.recall_of k.recall)) ≡ true)
-      (aged : List LearntAddress) (now : aged ≡ map (ages_now x) learnt.addresses) where
-    pub aged_in_turn : (own led : Learnt) → own ≡ (releases x (record learnt { addresses = aged })).learnt → led ≡ (releases_led (option_map table.recall_of k.recall) own).learnt →
-        led ≡ (hears_aged learnt x number).learnt
-    aged_in_turn own led first second =
-        second
-        ∙ ap (λ (l : Learnt). (releases_led (option_map table.recall_of k.recall) l).learnt)
-        (first ∙ ap (λ (listed : List LearntAddress). (releases x (record learnt { addresses = listed })).learnt) now)
-        ∙ sym (ap (λ (step : LearntStep). step.learnt) (counted_age number k is same))
-
-    pub acts_in_turn : (own : Learnt) (first_acts second_acts : List ManagerAct) → own ≡ (releases x (record learnt { addresses = aged })).learnt →
-        first_acts ≡ (releases x (record learnt { addresses = aged })).acts → second_acts ≡ (releases_led (option_map table.recall_of k.recall) own).acts →
-        first_acts ++ second_acts ≡ (hears_aged learnt x number).acts
-    acts_in_turn own first_acts second_acts first says says_then =
-        (λ i. says i ++ says_then i)
-        ∙ ap (λ (l : Learnt). (releases x (record learnt { addresses = aged })).acts ++ (releases_led (option_map table.recall_of k.recall) l).acts) first
-        ∙ ap (λ (listed : List LearntAddress). (releases x (record learnt { addresses = listed })).acts
-        ++ (releases_led (option_map table.recall_of k.recall) (releases x (record learnt { addresses = listed })).learnt).acts) now
-        ∙ sym (ap (λ (step : LearntStep). step.acts) (counted_age number k is same))
+-- the list without an address, as it is seen
+pub filter_viewed : (x : Pmac) (told : List Reported) → map reported_of (filter (λ r. not (same_pmac r.pmac x)) told)
+    ≡ filter (λ r. not (same_pmac r.pmac x)) (map reported_of told)
+filter_viewed x [] = refl
+filter_viewed x (r ∷ told) = by (not (same_pmac r.pmac x)) (filter_viewed x told)
+  where
+    by : (b : Bool) → map reported_of (filter (λ r. not (same_pmac r.pmac x)) told) ≡ filter (λ r. not (same_pmac r.pmac x)) (map reported_of told) →
+        map reported_of (cond b (r ∷ filter (λ r. not (same_pmac r.pmac x)) told) (filter (λ r. not (same_pmac r.pmac x)) told))
+        ≡ cond b (reported_of r ∷ filter (λ r. not (same_pmac r.pmac x)) (map reported_of told)) (filter (λ r. not (same_pmac r.pmac x)) (map reported_of told))
+    by true rest = ap (λ rs. reported_of r ∷ rs) rest
+    by false rest = rest

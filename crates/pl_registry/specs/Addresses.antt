@@ -39,9 +39,9 @@ told_at pmac told = record { switch = told.switch; pmac = pmac; amac = told.amac
 abbrev pub newest_first : List (Pmac × Known) → List LearntAddress
 newest_first entries = reverse (map (λ e. learnt_at e.0 e.1) entries)
 
--- what was learnt, without owners, as if none were forgotten
+-- what was learnt, without owners and reports, as if none were forgotten
 abbrev pub learnt_of : List LearntAddress → Learnt
-learnt_of addresses = record { addresses = addresses; owners = []; count = length addresses }
+learnt_of addresses = record { addresses = addresses; reported = []; owners = []; count = length addresses }
 
 abbrev pub registration_of : Registered → Registration
 registration_of r = record { pmac = r.pmac; amac = r.amac; number = r.number; switch = r.switch }

@@ -1,12 +1,15 @@
 -- What the manager does when it learns an address, and when one has aged.
-use Rattle.std.specs.Prelude.{ℕ, List, [], ◌∷◌, ◌++◌, Option, Some, None}
+use Rattle.std.specs.Prelude.{ℕ, if◌then◌else◌, map, List, [], ◌∷◌, Option, Some, None}
+use Rattle.pl_frame.specs.declared.address.SwitchId.{SwitchId}
 use Rattle.pl_pmac.specs.declared.pmac.Pmac.{Pmac}
+use Rattle.pl_node.specs.ManagerViews.{Learnt, Reported}
+use Rattle.pl_manager_rule.specs.ManagerRule.{with_aged}
+use Rattle.pl_manager_rule.specs.Reports.{counts_as, reported_ages, with_aged_as}
 use Rattle.pl_node.specs.declared.acts.ManagerAct.{ManagerAct}
 use Rattle.pl_node.specs.declared.acts.ManagerAct.TheVariants.{Say, Number}
 use Rattle.pl_node.specs.declared.messages.ToSwitch.TheVariants as say
 use Rattle.pl_registry.specs.declared.registry.Learning.{Learning}
 use Rattle.pl_registry.specs.declared.registry.Release.{Release}
-use Rattle.pl_registry.specs.declared.registry.Releases.{Releases}
 use Rattle.pl_registry.specs.declared.registry.Replaced.{Replaced}
 
 -- the switch that told the replaced address is sent the newer one
@@ -24,6 +27,10 @@ abbrev pub acts_of_release : Option Release → List ManagerAct
 acts_of_release None = []
 acts_of_release (Some release) = Say release.switch (say.Release release.pmac) ∷ []
 
--- first that of the address that has aged
-abbrev pub acts_of_releases : Releases → List ManagerAct
-acts_of_releases releases = acts_of_release releases.own ++ acts_of_release releases.led
+-- that a known address has aged is noted
+abbrev pub with_known_aged : Learnt → Pmac → Learnt
+with_known_aged learnt x = record (with_aged learnt x) { reported = map (reported_ages x) learnt.reported }
+
+-- that an address has aged is noted where it counts
+abbrev pub noted_aged : ℕ → Learnt → SwitchId → Pmac → ℕ → Option Reported → Learnt
+noted_aged epoch learnt s x number known = if counts_as epoch number known then with_aged_as learnt s x known else learnt

@@ -3,15 +3,17 @@
 //!
 //! `Registry` has the pseudo addresses in the order in which they were first learnt, with where each leads
 //! since its host has a newer one, the newest address of each host, and the host of each IPv4 address. An
-//! address that has aged, and to which nothing leads any more, is forgotten.
+//! address that has aged, and to which nothing leads any more, is forgotten. What a report alone tells of
+//! addresses it has in a list, which is gone through.
 //! `Askers` has the switches that asked for the number of a pod, with what they were given. Which number that is
 //! and what the manager makes of it is left to the crates above.
 #![tactic(auto)]
 
 pub use askers::Askers;
-pub use registry::{Learning, Registry, Release, Releases, Replaced};
+pub use registry::{Learning, Registry, Release, Replaced};
 
 mod addresses;
 mod askers;
 mod owners;
 mod registry;
+mod reports;

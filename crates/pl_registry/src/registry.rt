@@ -1,25 +1,36 @@
-ghost use Rattle.std.specs.Prelude.{◌≡◌, ◌+◌, ◌&&◌, ℕ, [], IfOk, OnOk, not, option_map};
+ghost use Rattle.std.specs.Prelude.{◌≡◌, ◌+◌, ◌&&◌, ℕ, [], if◌then◌else◌, None, IfOk, OnOk, find, not, option_map};
+ghost use Rattle.std.specs.Option.{option_and_then};
 ghost use Rattle.pl_node.specs.ManagerFacts.{newest_and_number};
-ghost use Rattle.pl_node.specs.ManagerViews.{is_led_to, lookup, number_behind};
-ghost use Rattle.pl_manager_rule.specs.ManagerRule.{hears_aged, invalidation, learning, releases, releases_led, with_learnt, with_owner};
-ghost use Rattle.pl_registry.specs.Addresses.{learnt_of, recall_of, registration_of};
-ghost use Rattle.pl_registry.specs.Learning.{acts_of_learning, acts_of_release, acts_of_releases, acts_of_replaced};
+ghost use Rattle.pl_layouts.specs.Equality.{same_pmac};
+ghost use Rattle.pl_node.specs.ManagerViews.{lookup, number_behind, numbers_before};
+ghost use Rattle.pl_manager_rule.specs.ManagerRule.{invalidation, learning, with_learnt, with_owner};
+ghost use Rattle.pl_manager_rule.specs.Reports.{counts_as, is_known_led_to, known_at, leads_known, releases_known, with_aged_as, with_trap, with_trap_as};
+ghost use Rattle.pl_registry.specs.Addresses.{recall_of, registration_of};
+ghost use Rattle.pl_registry.specs.Reports.{registered_report, reported_of};
+ghost use Rattle.pl_registry.specs.Learning.{noted_aged, with_known_aged};
+ghost use Rattle.pl_registry.specs.Learning.{acts_of_learning, acts_of_release, acts_of_replaced};
 
 use crate::addresses::{Addresses, Known, Recall, Registered, Told};
 use crate::owners::Owners;
+use crate::reports::{Reported, Reports};
 use pl_frame::{Ip4, Mac, SwitchId};
 use pl_node::Memory;
 use pl_pmac::Pmac;
 use std::alloc::{AllocError, Global};
 use std::marker::Model;
 
+// So many numbers each epoch has.
+const NUMBERS: u64 = 4_294_967_296;
+
 /// What was learnt of addresses. Contracts see it as the manager's rule does: the addresses with the newest
-/// first, the owners by rising IPv4 address, and how many addresses were learnt.
+/// first, those that are known by a report alone, the owners by rising IPv4 address, and the number that was
+/// given last.
 #[derive(Debug, Drop)]
 pub struct Registry {
     addresses: Addresses,
+    reports: Reports,
     owners: Owners,
-    // How many addresses were learnt.
+    // The number that was given last.
     count: u64,
 }
 
@@ -40,14 +51,6 @@ pub struct Replaced {
     pub ip: Option<Ip4>,
 }
 
-/// Which addresses are released where one has aged: that one, and the one to which its trap led. Either is
-/// none where it is not released.
-#[derive(Clone, Copy, Debug, PartialEq, Eq)]
-pub struct Releases {
-    pub own: Option<Release>,
-    pub led: Option<Release>,
-}
-
 /// An address is forgotten that this switch told first.
 #[derive(Clone, Copy, Debug, PartialEq, Eq)]
 pub struct Release {
@@ -60,17 +63,19 @@ impl Model for Registry {
 
     ghost Value = { Learnt };
 
-    ghost view = { λ registry. record { addresses = registry.addresses; owners = registry.owners; count = registry.count } };
+    ghost view = { λ registry. record { addresses = registry.addresses; reported = registry.reports; owners = registry.owners; count = registry.count } };
 }
 
 impl Registry {
-    pub fn new(alloc: Global) -> Registry
-        ensures { result ≡ record { addresses = []; owners = []; count = 0 } }
+    /// That of a manager that began anew so often, and knows nothing.
+    pub fn new(alloc: Global, epoch: u32) -> Registry
+        ensures { result ≡ record { addresses = []; reported = []; owners = []; count = numbers_before epoch } }
     {
         Registry {
             addresses: Addresses::new(alloc),
+            reports: Reports::new(alloc),
             owners: Owners::new(alloc),
-            count: 0,
+            count: u64::from(epoch) * NUMBERS,
         }
     }
 
@@ -120,49 +125,144 @@ impl Registry {
         Ok(Some(Learning { number, replaced }))
     }
 
-    /// An edge switch tells that an address has aged there, behind a trap of this number, or 0. Where that
-    /// counts, the answer is what is released by it.
-    pub fn age(&mut self, pmac: Pmac, number: u64) -> Result<Releases, Memory>
-        ensures learnt { OnOk result (self.new ≡ (hears_aged self.old pmac number).learnt) }
-        ensures acts { IfOk result (λ releases. acts_of_releases releases ≡ (hears_aged self.old pmac number).acts) }
+    /// A switch tells, to a manager that began anew so often, that an address has aged there behind a trap of
+    /// this number, or 0. The answer is whether that counts.
+    pub fn note_aged(
+        &mut self,
+        switch: SwitchId,
+        pmac: Pmac,
+        number: u64,
+        epoch: u32,
+    ) -> Result<bool, Memory>
+        ensures counts { IfOk result (λ counts. counts ≡ counts_as epoch number (known_at self.old pmac)) }
+        ensures noted { OnOk result (self.new ≡ noted_aged epoch self.old switch pmac number (known_at self.old pmac)) }
     {
-        match self.addresses.known_at(pmac) {
-            Some(known) if number == number_behind(known.recall) => {
-                self.addresses.set_aged(pmac)?;
-                let own = self.release(pmac);
-                let led = self.release_led(known.recall);
-                Ok(Releases { own, led })
-            }
-            _ => Ok(Releases {
-                own: None,
-                led: None,
-            }),
+        match self.known(pmac) {
+            Some(known) => self.note_known_aged(pmac, number == number_behind(known.recall)),
+            None => self.note_reported_aged(switch, pmac, epoch != 0),
         }
     }
 
-    // An address that has aged, and to which no trap leads that stands, is forgotten.
-    fn release(&mut self, pmac: Pmac) -> Option<Release>
-        ensures learnt { self.new ≡ (releases pmac self.old).learnt }
-        ensures acts { acts_of_release result ≡ (releases pmac self.old).acts }
+    // Of an address that is known.
+    fn note_known_aged(&mut self, pmac: Pmac, counts: bool) -> Result<bool, Memory>
+        ensures counts { IfOk result (λ noted. noted ≡ counts) }
+        ensures noted { OnOk result (self.new ≡ (if counts then with_known_aged self.old pmac else self.old)) }
     {
-        let known = self.addresses.known_at(pmac)?;
-        if !can_release(&self.addresses, known, pmac) {
+        if counts {
+            self.addresses.set_aged(pmac)?;
+            self.reports.set_aged(pmac);
+        }
+        Ok(counts)
+    }
+
+    // Of one of which nothing is known.
+    fn note_reported_aged(
+        &mut self,
+        switch: SwitchId,
+        pmac: Pmac,
+        counts: bool,
+    ) -> Result<bool, Memory>
+        ensures counts { IfOk result (λ noted. noted ≡ counts) }
+        ensures noted { OnOk result (self.new ≡ (if counts then with_aged_as self.old switch pmac None else self.old)) }
+    {
+        if counts {
+            self.reports.push(Reported {
+                switch,
+                pmac,
+                recall: None,
+                aged: true,
+            })?;
+        }
+        Ok(counts)
+    }
+
+    /// A switch tells, to a manager that began anew so often, that a trap of this number stands for an address,
+    /// and leads to a newer one.
+    pub fn note_trap(
+        &mut self,
+        switch: SwitchId,
+        old: Pmac,
+        new: Pmac,
+        number: u64,
+        epoch: u32,
+    ) -> Result<(), Memory>
+        ensures { OnOk result (self.new ≡ with_trap epoch self.old switch old (record { new = new; number = number })) }
+    {
+        if epoch == 0 || self.addresses.known_at(old).is_some() {
+            return Ok(());
+        }
+        self.lead_reported(switch, old, Recall { new, number })
+    }
+
+    fn lead_reported(&mut self, switch: SwitchId, old: Pmac, to: Recall) -> Result<(), Memory>
+        ensures { OnOk result (self.new ≡ with_trap_as self.old switch old (recall_of to) (find (λ r. same_pmac r.pmac old) self.old.reported)) }
+    {
+        if self.reports.find(old).is_some() {
+            self.reports.lead(old, to);
+            return Ok(());
+        }
+        self.reports.push(Reported {
+            switch,
+            pmac: old,
+            recall: Some(to),
+            aged: false,
+        })
+    }
+
+    /// Where the trap of an address leads, that stands or has ended.
+    pub fn leads_to(&self, pmac: Pmac) -> Option<Pmac>
+        ensures { result ≡ leads_known self.now pmac }
+    {
+        let recall = self.recall_of(pmac)?;
+        Some(recall.new)
+    }
+
+    fn recall_of(&self, pmac: Pmac) -> Option<Recall>
+        ensures { option_map recall_of result ≡ option_and_then (λ r. r.recall) (known_at self.now pmac) }
+    {
+        self.known(pmac)?.recall
+    }
+
+    // What is known of an address, registered or by a report alone.
+    fn known(&self, pmac: Pmac) -> Option<Reported>
+        ensures { option_map reported_of result ≡ known_at self.now pmac }
+    {
+        match self.addresses.known_at(pmac) {
+            Some(known) => Some(as_reported(pmac, known)),
+            None => self.reports.find(pmac),
+        }
+    }
+
+    /// An address that has aged, and to which no trap leads that stands, is forgotten.
+    pub fn release(&mut self, pmac: Pmac) -> Option<Release>
+        ensures learnt { self.new ≡ (releases_known pmac self.old).learnt }
+        ensures acts { acts_of_release result ≡ (releases_known pmac self.old).acts }
+    {
+        let known = self.known(pmac)?;
+        if !self.can_release(known, pmac) {
             return None;
         }
         self.addresses.forget(pmac);
+        self.reports.forget(pmac);
         Some(Release {
             switch: known.switch,
             pmac,
         })
     }
 
-    // The same of the address to which a trap led that has ended, if there was one.
-    fn release_led(&mut self, recall: Option<Recall>) -> Option<Release>
-        ensures learnt { self.new ≡ (releases_led (option_map recall_of recall) self.old).learnt }
-        ensures acts { acts_of_release result ≡ (releases_led (option_map recall_of recall) self.old).acts }
+    // Whether an address of which this is known has aged, and no trap leads to it that stands.
+    fn can_release(&self, known: Reported, pmac: Pmac) -> bool
+        ensures { result ≡ (known.aged && not (is_known_led_to self.now pmac)) }
     {
-        let recall = recall?;
-        self.release(recall.new)
+        known.aged && !self.is_led_to(pmac)
+    }
+
+    fn is_led_to(&self, pmac: Pmac) -> bool
+        ensures { result ≡ is_known_led_to self.now pmac }
+    {
+        let registered = self.addresses.is_led_to(pmac);
+        let reported = self.reports.is_led_to(pmac);
+        registered || reported
     }
 
     // The number of the next address.
@@ -199,11 +299,15 @@ impl Registry {
     }
 }
 
-// Whether an address of which this is known has aged, and no trap leads to it that stands.
-fn can_release(addresses: &Addresses, known: Known, pmac: Pmac) -> bool
-    ensures { result ≡ (known.aged && not (is_led_to (learnt_of addresses.now) pmac)) }
+fn as_reported(pmac: Pmac, known: Known) -> Reported
+    ensures { result ≡ registered_report pmac known }
 {
-    known.aged && !addresses.is_led_to(pmac)
+    Reported {
+        switch: known.switch,
+        pmac,
+        recall: known.recall,
+        aged: known.aged,
+    }
 }
 
 // The number of the trap behind which an address ages, 0 where it leads to no newer one.

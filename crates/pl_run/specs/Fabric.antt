@@ -9,7 +9,7 @@ use Rattle.pl_inputs.specs.Inputs.{Inputs}
 use Rattle.pl_bridge_rule.specs.BridgeRule.{Bridges}
 use Rattle.pl_bridge_rule.specs.QuietManager.{IsQuiet}
 use Rattle.pl_host_rule.specs.HostRule.{host_rule}
-use Rattle.pl_manager_rule.specs.ManagerRule.{manager_rule}
+use Rattle.pl_manager_rule.specs.WholeRule.{whole_rule}
 use Rattle.pl_switch_rule.specs.SwitchRule.{Exact}
 use Rattle.pl_script_rule.specs.declared.stop.Stop.{Stop}
 use Rattle.pl_script_rule.specs.Scenes.{Scene}
@@ -20,7 +20,7 @@ use Rattle.pl_playing.specs.Outcomes as playing
 use Rattle.pl_playing.specs.Prepared as prepared
 
 abbrev pub play_on : Network → Play
-play_on network.Fabric = on_fabric Exact manager_rule host_rule
+play_on network.Fabric = on_fabric Exact whole_rule host_rule
 play_on network.Bridges = on_bridges Bridges IsQuiet host_rule
 
 -- The script of what was read is played on this network.

@@ -10,6 +10,7 @@ use Rattle.pl_node.specs.Trees.{core_of, tree_part}
 use Rattle.pl_host_rule.specs.HostRule.{skip_of}
 use Rattle.pl_node.specs.HostViews.{groups_after}
 use Rattle.pl_manager_rule.specs.ManagerRule.{manager_hears}
+use Rattle.pl_manager_rule.specs.WholeRule.{manager_steps}
 use Rattle.pl_switch_rule.specs.Aging.{all_age_out}
 use Rattle.pl_switch_rule.specs.Granting.{grants_remembered}
 use Rattle.pl_world.specs.declared.event.Event.{Event}
@@ -24,19 +25,19 @@ use Rattle.pl_sure_example.proofs.Executions.{AllLead, lead_all, lead_start, lea
 use Rattle.pl_sure_example.proofs.Sure.{assembled}
 
 rest_is : option_map (λ w. list_any (is_sent 3) w.journal) at_rest ≡ Some false
-unfolding all_age_out arp_frame control_frame control_in control_bytes manager_hears avoid_list core_of tree_part grants_remembered
+unfolding all_age_out arp_frame control_frame control_in control_bytes manager_steps manager_hears avoid_list core_of tree_part grants_remembered
 rest_is = refl
 
 sent_is : option_map snapshot sent ≡ Some (sure_with true 0 (Some (Sent 3 a a_to_b)))
-unfolding all_age_out arp_frame control_frame control_in control_bytes manager_hears avoid_list core_of tree_part grants_remembered decode_pairs skip_of groups_after
+unfolding all_age_out arp_frame control_frame control_in control_bytes manager_steps manager_hears avoid_list core_of tree_part grants_remembered decode_pairs skip_of groups_after
 sent_is = refl
 
 crossed_is : option_map snapshot crossed ≡ Some (sure_with true 0 (Some (Crossed 3 e00)))
-unfolding all_age_out arp_frame control_frame control_in control_bytes manager_hears avoid_list core_of tree_part grants_remembered decode_pairs skip_of groups_after
+unfolding all_age_out arp_frame control_frame control_in control_bytes manager_steps manager_hears avoid_list core_of tree_part grants_remembered decode_pairs skip_of groups_after
 crossed_is = refl
 
 arrived_is : option_map snapshot arrived ≡ Some (sure_with true 1 (Some (Arrived 3 b a_to_b_arrived)))
-unfolding all_age_out arp_frame control_frame control_in control_bytes manager_hears avoid_list core_of tree_part grants_remembered decode_pairs skip_of groups_after
+unfolding all_age_out arp_frame control_frame control_in control_bytes manager_steps manager_hears avoid_list core_of tree_part grants_remembered decode_pairs skip_of groups_after
 arrived_is = refl
 
 lead_round : (o : Option WorldView) → AllLead start o → AllLead start (round o)

@@ -2,7 +2,7 @@
 use Rattle.std.proofs.Common.{◌≡◌, ℕ, zero, suc, List, [], ◌∷◌, ◌++◌, Option, Some, None, refl, sym, subst}
 use Rattle.std.proofs.lemmas.Option.{none-some, same_Some}
 use Rattle.pl_switch_rule.specs.SwitchRule.{Exact}
-use Rattle.pl_manager_rule.specs.ManagerRule.{manager_rule}
+use Rattle.pl_manager_rule.specs.WholeRule.{whole_rule}
 use Rattle.pl_host_rule.specs.HostRule.{host_rule}
 use Rattle.pl_world.specs.declared.event.Event.{Event}
 use Rattle.pl_world.specs.declared.event.Event.TheVariants as event
@@ -15,15 +15,15 @@ use Rattle.pl_sure_example.proofs.Steps.{made_is}
 
 module _ (start : WorldView) where
   abbrev pub Leads : WorldView → Type 0
-  Leads w = (moments : List Moment) × WorldRun Exact manager_rule host_rule start moments w
+  Leads w = (moments : List Moment) × WorldRun Exact whole_rule host_rule start moments w
 
   -- if it came to a world at all
   abbrev pub AllLead : Option WorldView → Type 0
   AllLead o = (w : WorldView) → o ≡ Some w → Leads w
 
-  one_more : (old w next : WorldView) (moments : List Moment) (moment : Moment) → WorldRun Exact manager_rule host_rule old moments w →
-      Befalls Exact manager_rule host_rule w moment next → WorldRun Exact manager_rule host_rule old (moments ++ moment ∷ []) next
-  one_more old w next [] moment same befalls = (next, subst (λ (x : WorldView). Befalls Exact manager_rule host_rule x moment next) same befalls, refl)
+  one_more : (old w next : WorldView) (moments : List Moment) (moment : Moment) → WorldRun Exact whole_rule host_rule old moments w →
+      Befalls Exact whole_rule host_rule w moment next → WorldRun Exact whole_rule host_rule old (moments ++ moment ∷ []) next
+  one_more old w next [] moment same befalls = (next, subst (λ (x : WorldView). Befalls Exact whole_rule host_rule x moment next) same befalls, refl)
   one_more old w next (first ∷ moments) moment run befalls = (run.0, run.1, one_more run.0 w next moments moment run.2 befalls)
 
   pub lead_start : AllLead (Some start)

@@ -20,7 +20,7 @@ use Rattle.pl_node.specs.SwitchInputs.{SwitchInput}
 use Rattle.pl_node.specs.SwitchInputs.SwitchInput.{Comes, Says, Tick}
 use Rattle.pl_node.specs.SwitchViews.{SwitchView}
 use Rattle.pl_switch_rule.specs.SwitchRule.{Exact, by_flow, switch_step}
-use Rattle.pl_manager_rule.specs.ManagerRule.{manager_hears, manager_rule}
+use Rattle.pl_manager_rule.specs.WholeRule.{manager_steps, whole_rule}
 use Rattle.pl_host_rule.specs.HostRule.{HostStep, host_rule, host_step}
 use Rattle.pl_world.specs.declared.error.StepError.{StepError}
 use Rattle.pl_world.specs.declared.event.Event.{Event}
@@ -156,21 +156,21 @@ by_port_is : (w : WorldView) (s port : ℕ) (items : List Item) (new : WorldView
 by_port_is w s port [] new is = none-some new is
 by_port_is w s port (item ∷ items) new is = over_is _ s port item (peer_of w.plan s port) new is
 
-manager_turn_is : (w : WorldView) (s : ℕ) (told : ToManager) (new : WorldView) → manager_turn w told (slice_get w.plan.ids s) ≡ Some new → ManagerTurn manager_rule w s told new
+manager_turn_is : (w : WorldView) (s : ℕ) (told : ToManager) (new : WorldView) → manager_turn w told (slice_get w.plan.ids s) ≡ Some new → ManagerTurn whole_rule w s told new
 manager_turn_is w s told new is = by (slice_get w.plan.ids s) refl is
   where
-    by : (o : Option SwitchId) → slice_get w.plan.ids s ≡ o → manager_turn w told o ≡ Some new → ManagerTurn manager_rule w s told new
+    by : (o : Option SwitchId) → slice_get w.plan.ids s ≡ o → manager_turn w told o ≡ Some new → ManagerTurn whole_rule w s told new
     by None found is = absurd (none-some new is)
     by (Some id) found is = record {
       id = id;
-      after = (manager_hears w.manager id told).view;
-      acts = (manager_hears w.manager id told).acts;
+      after = (manager_steps w.manager id told).view;
+      acts = (manager_steps w.manager id told).acts;
       found = found;
       ruled = (refl, refl);
       changed = sym (same_Some _ new is);
     }
 
-to_manager_is : (w : WorldView) (s : ℕ) (items : List ToManager) (new : WorldView) → to_manager w s items ≡ Some new → DeliversToManager manager_rule w s items new
+to_manager_is : (w : WorldView) (s : ℕ) (items : List ToManager) (new : WorldView) → to_manager w s items ≡ Some new → DeliversToManager whole_rule w s items new
 to_manager_is w s [] new is = none-some new is
 to_manager_is w s (told ∷ items) new is = manager_turn_is _ s told new is
 
@@ -178,7 +178,7 @@ from_manager_is : (w : WorldView) (s : ℕ) (items : List ToSwitch) (new : World
 from_manager_is w s [] new is = none-some new is
 from_manager_is w s (says ∷ items) new is = switch_turn_is _ s (Says says) Silent new is
 
-delivered_is : (w : WorldView) (name : QueueName) (new : WorldView) → delivered w name ≡ Some new → Delivers Exact manager_rule host_rule w name new
+delivered_is : (w : WorldView) (name : QueueName) (new : WorldView) → delivered w name ≡ Some new → Delivers Exact whole_rule host_rule w name new
 delivered_is w (queue.FromHost h) new is = from_host_is w h.0 (items_at w.from_hosts h.0) new is
 delivered_is w (queue.Port s port) new is = by_port_is w s.0 port (out_of w s.0 port) new is
 delivered_is w (queue.ToManager s) new is = to_manager_is w s.0 (items_at w.to_manager s.0) new is
@@ -188,7 +188,7 @@ failed_is : (w : WorldView) (link : Option Link) (new : WorldView) → failed w 
 failed_is w None new is = none-some new is
 failed_is w (Some link) new is = sym (same_Some _ new is)
 
-happened_is : (w : WorldView) (e : Event) (new : WorldView) → happened w e ≡ Some new → Happens Exact manager_rule host_rule w e new
+happened_is : (w : WorldView) (e : Event) (new : WorldView) → happened w e ≡ Some new → Happens Exact whole_rule host_rule w e new
 happened_is w (event.Deliver name) new is = delivered_is w name new is
 happened_is w (event.Tick s) new is = switch_turn_is _ s.0 Tick Silent new is
 happened_is w (event.Fail a b) new is = failed_is w (link_between w.plan a.0 b.0) new is
@@ -196,9 +196,9 @@ happened_is w (event.Start h) new is = starts_is w h.0 new is
 happened_is w (event.Play h frame original raw) new is = plays_is w h.0 _ new is
 happened_is w e new is = absurd (none-some new is)
 
-pub made_is : (w : WorldView) (e : Event) (new : WorldView) → made w e ≡ Some new → Befalls Exact manager_rule host_rule w (Step e) new
+pub made_is : (w : WorldView) (e : Event) (new : WorldView) → made w e ≡ Some new → Befalls Exact whole_rule host_rule w (Step e) new
 made_is w e new is = by (refusal w e) refl is
   where
-    by : (o : Option StepError) → refusal w e ≡ o → made_if w e (is_none o) ≡ Some new → Befalls Exact manager_rule host_rule w (Step e) new
+    by : (o : Option StepError) → refusal w e ≡ o → made_if w e (is_none o) ≡ Some new → Befalls Exact whole_rule host_rule w (Step e) new
     by None free is = (free, happened_is (record w { steps = w.steps + 1 }) e new is)
     by (Some error) refused is = absurd (none-some new is)

@@ -17,7 +17,8 @@ use Rattle.pl_node.specs.SwitchInputs.SwitchInput.{Comes, Says, Tick}
 use Rattle.pl_node.specs.SwitchViews.{SwitchView}
 use Rattle.pl_steps.specs.Steps.{SwitchStep}
 use Rattle.pl_switch_rule.specs.SwitchRule.{by_flow, switch_step}
-use Rattle.pl_manager_rule.specs.ManagerRule.{ManagerStep, manager_hears}
+use Rattle.pl_manager_rule.specs.ManagerRule.{ManagerStep}
+use Rattle.pl_manager_rule.specs.WholeRule.{manager_steps}
 use Rattle.pl_host_rule.specs.HostRule.{HostStep, host_step}
 use Rattle.pl_journal.specs.declared.cause.Cause.TheVariants.{HostGone}
 use Rattle.pl_journal.specs.declared.entry.Entry.TheVariants.{Crossed, Dropped}
@@ -103,7 +104,7 @@ manager_did w step = manager_stepped w step.view step.acts
 
 abbrev pub manager_turn : WorldView → ToManager → Option SwitchId → Option WorldView
 manager_turn w told None = None
-manager_turn w told (Some id) = Some (manager_did w (manager_hears w.manager id told))
+manager_turn w told (Some id) = Some (manager_did w (manager_steps w.manager id told))
 
 abbrev pub to_manager : WorldView → ℕ → List ToManager → Option WorldView
 to_manager w s [] = None

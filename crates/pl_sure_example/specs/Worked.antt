@@ -3,7 +3,7 @@ use Rattle.std.specs.Prelude.{◌≡◌, ◌≤◌, ℕ, Contains, List}
 use Rattle.pl_journal.specs.declared.entry.Entry.TheVariants.{Arrived}
 use Rattle.pl_journal.specs.Flights.{ends}
 use Rattle.pl_host_rule.specs.HostRule.{host_rule}
-use Rattle.pl_manager_rule.specs.ManagerRule.{manager_rule}
+use Rattle.pl_manager_rule.specs.WholeRule.{whole_rule}
 use Rattle.pl_switch_rule.specs.SwitchRule.{Exact}
 use Rattle.pl_world.specs.Runs.{Moment, WorldRun}
 use Rattle.pl_world.specs.Worlds.{WorldView}
@@ -19,7 +19,7 @@ pub record IsWorked : Type 0 where
   pub moments : List Moment
   pub old : WorldView
   pub ended : WorldView
-  pub run : WorldRun Exact manager_rule host_rule start before old
-  pub sure : IsSure Exact manager_rule host_rule old moments ended 3 0 1
+  pub run : WorldRun Exact whole_rule host_rule start before old
+  pub sure : IsSure Exact whole_rule host_rule old moments ended 3 0 1
   pub once : ends ended.journal 3 ≡ 1
   pub arrived : Contains ended.journal (Arrived 3 b a_to_b_arrived)

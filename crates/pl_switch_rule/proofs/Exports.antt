@@ -20,5 +20,5 @@ pub use Rattle.pl_switch_rule.proofs.RowActs.{ages_acts, all_age_out_acts, annou
 pub use Rattle.pl_switch_rule.proofs.RowViews.{ages_learn, answers_stay, begins_stays, changes_learn, floods_stay, frees_learn, home_stays, host_frame_learns, invalidates_learns, LearnsHosts, LearnsSources, probes_stay, proposal_holds, sends_in_stays, settles_in_learns, source_learns, sources_are_of_hosts, Stays, stays_learns, switch_frame_stays, taken_in, with_host}
 pub use Rattle.pl_switch_rule.proofs.SentFrames.{six_of_mac}
 pub use Rattle.pl_switch_rule.proofs.Shapes.{all_or, all_range}
-pub use Rattle.pl_switch_rule.proofs.StepActs.{control_acts, data_acts, host_frame_acts, HostActs, manager_acts, neighbours_acts, step_acts, ticks_acts}
+pub use Rattle.pl_switch_rule.proofs.StepActs.{control_acts, data_acts, data_acts_by, host_frame_acts, HostActs, manager_acts, neighbours_acts, step_acts, ticks_acts}
 pub use Rattle.pl_switch_rule.proofs.StepParts.{IsQuiet, quiet_then_quiet}

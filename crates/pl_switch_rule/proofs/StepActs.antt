@@ -98,29 +98,39 @@ module _ (P : Act → Type 0) where
       by (Ok (control.Proposal id p)) so = proposal_acts P sent v port id p
       by (Ok (control.Vote id vote)) so = changed v (after_vote v port vote) grants so
 
+  -- a data frame
+  module _ (choose : Choice) (frames : FrameActs IsAnyPort P) (grants : GrantActs P) (made : (frame : List ℕ) → P (act.Make frame))
+      (joined : (group : ℕ) (any : Bool) → P (act.Tell (tell.Members group any))) where
+    pub host_acts_by : (v : SwitchView) (port : ℕ) (frame : List ℕ) → ChangeActs (comes_from_host choose v port frame).view.place P →
+        Each P (comes_from_host choose v port frame)
+    host_acts_by v port frame later =
+        let known : SwitchStep = finds_host v port ▹ (λ w. learns_source w port frame) in
+        cond_both (is_known v.place.level 1 || is_known v.place.level 2) (does v (act.Drop NotPlaced ∷ [])) (known ▹ takes_in_or_spent choose port frame)
+        (λ (step : SwitchStep). ChangeActs step.view.place P → Each P step) (λ no_hosts so. (frames.dropped NotPlaced, tt))
+        (λ edge so. all_append P known.acts (takes_in_or_spent choose port frame known.view).acts
+        (all_append P (finds_host v port).acts (learns_source (finds_host v port).view port frame).acts
+        (changes_acts P grants v (with_host v port) (subst (λ place. ChangeActs place P)
+        (ap (λ (w : SwitchView). w.place) (host_frame_learns choose v port frame)) so))
+        (learns_source_acts P grants (finds_host v port).view port frame))
+        (taken_in_acts P IsAnyPort frames choose known.view (any_way choose known.view) port frame
+        (groups_acts P known.view.members _ (λ group other. joined group _)) (λ trap is ip. made _))) later
+
+    pub data_acts_by : (v : SwitchView) (port : ℕ) (frame : List ℕ) → ChangeActs (data_comes choose v port frame).view.place P →
+        Each P (data_comes choose v port frame)
+    data_acts_by v port frame later =
+        cond_both (is_open_to_hosts (port_of v port)) (comes_from_host choose v port frame) (comes_from_switch choose v port frame)
+        (λ (step : SwitchStep). ChangeActs step.view.place P → Each P step) (λ host so. host_acts_by v port frame so)
+        (λ switch so. switch_frame_acts P IsAnyPort frames choose v (any_way choose v) port frame (λ trap is ip. made _)) later
+
   module _ (choose : Choice) (may : HostActs P) where
-    -- a data frame
     module _ (joined : (group : ℕ) (any : Bool) → P (act.Tell (tell.Members group any))) where
       pub host_frame_acts : (v : SwitchView) (port : ℕ) (frame : List ℕ) → ChangeActs (comes_from_host choose v port frame).view.place P →
           Each P (comes_from_host choose v port frame)
-      host_frame_acts v port frame later =
-          let known : SwitchStep = finds_host v port ▹ (λ w. learns_source w port frame) in
-          cond_both (is_known v.place.level 1 || is_known v.place.level 2) (does v (act.Drop NotPlaced ∷ [])) (known ▹ takes_in_or_spent choose port frame)
-          (λ (step : SwitchStep). ChangeActs step.view.place P → Each P step) (λ no_hosts so. (may.frames.dropped NotPlaced, tt))
-          (λ edge so. all_append P known.acts (takes_in_or_spent choose port frame known.view).acts
-          (all_append P (finds_host v port).acts (learns_source (finds_host v port).view port frame).acts
-          (changes_acts P may.grants v (with_host v port) (subst (λ place. ChangeActs place P)
-          (ap (λ (w : SwitchView). w.place) (host_frame_learns choose v port frame)) so))
-          (learns_source_acts P may.grants (finds_host v port).view port frame))
-          (taken_in_acts P IsAnyPort may.frames choose known.view (any_way choose known.view) port frame
-          (groups_acts P known.view.members _ (λ group other. joined group _)) (λ trap is ip. may.made _))) later
+      host_frame_acts v port frame later = host_acts_by choose may.frames may.grants may.made joined v port frame later
 
       pub data_acts : (v : SwitchView) (port : ℕ) (frame : List ℕ) → ChangeActs (data_comes choose v port frame).view.place P →
           Each P (data_comes choose v port frame)
-      data_acts v port frame later =
-          cond_both (is_open_to_hosts (port_of v port)) (comes_from_host choose v port frame) (comes_from_switch choose v port frame)
-          (λ (step : SwitchStep). ChangeActs step.view.place P → Each P step) (λ host so. host_frame_acts v port frame so)
-          (λ switch so. switch_frame_acts P IsAnyPort may.frames choose v (any_way choose v) port frame (λ trap is ip. may.made _)) later
+      data_acts v port frame later = data_acts_by choose may.frames may.grants may.made joined v port frame later
 
     -- a message of the manager; members are taken away alone
     module _ (v : SwitchView) (left : (group : ℕ) (any : Bool) → has_member_of v.members group ≡ true → P (act.Tell (tell.Members group any))) where

@@ -1,14 +1,17 @@
-//! `learn SWITCH PMAC MAC [IP]`, `lookup IP`, `newest MAC`, `pod SWITCH`; a switch is its id.
+//! `learn SWITCH PMAC MAC [IP]`, `lookup IP`, `newest MAC`, `pod SWITCH`; `aged SWITCH PMAC NUMBER`, `release PMAC` of one that
+//! counted, and `leads PMAC`: where its trap leads; `trapped SWITCH OLD NEW NUMBER`; `restart N`: of a manager that began anew
+//! so often. A switch is its id.
 use pl_frame::{Memory, SwitchId};
 use pl_pmac::{Pmac, pack};
-use pl_registry::{Askers, Learning, Registry};
-use pl_test_words::{first_word, id, is_remark, pmac, say};
+use pl_registry::{Askers, Learning, Registry, Release};
+use pl_test_words::{first_word, id, is_remark, number, pmac, say};
 use pl_wiring::text::{ip, mac};
 use std::alloc::Global;
 
 pub(crate) fn play_registry(alloc: Global, lines: &[&str], out: &mut String) -> Result<(), Memory> {
     let mut bench = Bench {
-        registry: Registry::new(alloc),
+        epoch: 0,
+        registry: Registry::new(alloc, 0),
         askers: Askers::new(alloc),
     };
     for line in lines {
@@ -20,6 +23,7 @@ pub(crate) fn play_registry(alloc: Global, lines: &[&str], out: &mut String) -> 
 /// What was learnt of addresses, and the switches that asked for a pod.
 #[derive(Drop)]
 struct Bench {
+    epoch: u32,
     registry: Registry,
     askers: Askers,
 }
@@ -35,6 +39,11 @@ impl Bench {
             "lookup" => self.lookup(alloc, rest, out),
             "newest" => self.newest(alloc, rest, out),
             "pod" => self.pod(alloc, rest, out),
+            "aged" => self.aged(rest, out),
+            "trapped" => self.trapped(rest, out),
+            "release" => self.release(alloc, rest, out),
+            "leads" => self.leads(alloc, rest, out),
+            "restart" => self.restart(alloc, rest, out),
             _ => say(out, "not understood"),
         }
     }
@@ -51,6 +60,60 @@ impl Bench {
             }
             _ => say(out, "not understood"),
         }
+    }
+
+    // SWITCH PMAC NUMBER
+    fn aged(&mut self, rest: &str, out: &mut String) -> Result<(), Memory> {
+        let (switch, rest) = first_word(rest);
+        let (address, behind) = first_word(rest);
+        match (id(switch), pmac(address), behind.parse::<u64>()) {
+            (Some(switch), Some(pmac), Ok(number)) => {
+                let counts = self.registry.note_aged(switch, pmac, number, self.epoch)?;
+                say(out, if counts { "counts" } else { "void" })
+            }
+            _ => say(out, "not understood"),
+        }
+    }
+
+    // SWITCH OLD NEW NUMBER
+    fn trapped(&mut self, rest: &str, out: &mut String) -> Result<(), Memory> {
+        let (switch, rest) = first_word(rest);
+        let (old, rest) = first_word(rest);
+        let (new, number) = first_word(rest);
+        match (id(switch), pmac(old), pmac(new), number.parse::<u64>()) {
+            (Some(switch), Some(old), Some(new), Ok(number)) => {
+                self.registry
+                    .note_trap(switch, old, new, number, self.epoch)
+            }
+            _ => say(out, "not understood"),
+        }
+    }
+
+    // PMAC
+    fn release(&mut self, alloc: Global, rest: &str, out: &mut String) -> Result<(), Memory> {
+        let Some(pmac) = pmac(rest) else {
+            return say(out, "not understood");
+        };
+        say_release(alloc, self.registry.release(pmac), out)
+    }
+
+    // PMAC
+    fn leads(&self, alloc: Global, rest: &str, out: &mut String) -> Result<(), Memory> {
+        match pmac(rest) {
+            Some(pmac) => say_address(alloc, self.registry.leads_to(pmac), out),
+            None => say(out, "not understood"),
+        }
+    }
+
+    // N
+    fn restart(&mut self, alloc: Global, rest: &str, out: &mut String) -> Result<(), Memory> {
+        let Some(epoch) = number(rest) else {
+            return say(out, "not understood");
+        };
+        self.epoch = epoch;
+        self.registry = Registry::new(alloc, epoch);
+        self.askers = Askers::new(alloc);
+        Ok(())
     }
 
     // IP
@@ -122,6 +185,16 @@ fn say_learning(alloc: Global, learning: Option<Learning>, out: &mut String) -> 
         Some(ip) => format!(in alloc; "replaces {old} of {switch} for {ip}")?,
         None => format!(in alloc; "replaces {old} of {switch}")?,
     };
+    say(out, line.as_str())
+}
+
+fn say_release(alloc: Global, release: Option<Release>, out: &mut String) -> Result<(), Memory> {
+    let Some(release) = release else {
+        return say(out, "kept");
+    };
+    let SwitchId(switch) = release.switch;
+    let pmac = pack(release.pmac);
+    let line = format!(in alloc; "{switch} releases {pmac}")?;
     say(out, line.as_str())
 }
 

@@ -1,5 +1,5 @@
 -- A manager that says nothing owes nothing, and a host that sends its first frame alone sends data and joins no group.
-use Rattle.std.proofs.Common.{◌≡◌, IsTrue, List, [], refl, sym, ap, subst, ◌∙◌}
+use Rattle.std.proofs.Common.{◌≡◌, IsTrue, List, [], refl, sym, ap, subst}
 use Rattle.std.proofs.Math.Nat.{le-add_right}
 use Rattle.std.proofs.lemmas.Bool.{or_right}
 use Rattle.std.specs.List.{filter_map, list_all}
@@ -12,11 +12,11 @@ use Rattle.pl_node.specs.HostInputs.{HostAnswer, HostInput}
 use Rattle.pl_node.specs.HostInputs.HostAnswer.{Received}
 use Rattle.pl_node.specs.HostInputs.HostInput.{HasMoved, Joins, Leaves, Plays, PlaysRaw, Receives, Retries, Starts}
 use Rattle.pl_node.specs.HostViews.{HostView}
-use Rattle.pl_node.specs.ManagerDuties.{AnswersDuly, AreNumbered, IsGrown, is_for_heard, numbered_by}
+use Rattle.pl_node.specs.ManagerDuties.{AnswersDuly, AreNumbered, AreRegistered, IsGrown, is_for_heard, load, numbered_by}
 use Rattle.pl_node.specs.ManagerViews.{ManagerView, is_heard}
 use Rattle.pl_node.specs.declared.reception.Reception.{Reception}
 use Rattle.pl_node.specs.declared.reception.Reception.TheVariants.{Kept}
-use Rattle.pl_node.proofs.Exports.{nothing_numbered}
+use Rattle.pl_node.proofs.Exports.{nothing_numbered, nothing_registered}
 use Rattle.pl_host_rule.proofs.Exports.HostOwn as own
 use Rattle.pl_host_rule.proofs.Exports.{joins_by_sending, owes_sends}
 use Rattle.pl_test_sample.specs.Sending.{SendsOneFrame, one_frame_step}
@@ -25,16 +25,18 @@ use Rattle.pl_test_sample.specs.Silence.{SaysNothing}
 pub grown : (view : ManagerView) (s : SwitchId) → IsGrown view s view
 grown view s = record {
   k = refl;
+  epoch = refl;
   heard = λ t h. or_right (same_switch s t) (is_heard view t) h;
-  addresses = le-add_right view.learnt.count 1;
+  addresses = le-add_right (load view) 1;
 }
 
 pub says_nothing_duly : AnswersDuly SaysNothing
 says_nothing_duly = record {
   heard = λ before s says after acts ruled. subst (λ acts. IsTrue (list_all (is_for_heard before s) acts)) (sym ruled.1) refl;
   numbered = λ before s says after acts ruled.
-      subst (λ acts. AreNumbered before.learnt after.learnt (filter_map numbered_by acts)) (sym ruled.1)
-      (subst (λ view. AreNumbered before.learnt view.learnt []) (sym ruled.0) (nothing_numbered before.learnt));
+      subst (λ acts. AreNumbered before after (filter_map numbered_by acts)) (sym ruled.1)
+      (subst (λ view. AreNumbered before view []) (sym ruled.0) (nothing_numbered before));
+  registers = λ before s says after acts ruled. subst (AreRegistered after) (sym ruled.1) (nothing_registered after [] refl);
   grows = λ before s says after acts ruled. subst (λ view. IsGrown before s view) (sym ruled.0) (grown before s);
 }
 

@@ -12,7 +12,7 @@ use Rattle.pl_node.specs.declared.messages.ToSwitch.TheVariants.{Pod}
 use Rattle.pl_node.specs.ManagerDuties.{AnswersDuly, AreNumbered, IsGrown, ManagerRule, is_for_heard, numbered_by}
 use Rattle.pl_node.specs.ManagerViews.{ManagerView, is_heard}
 use Rattle.pl_layouts.specs.Equality.{same_switch}
-use Rattle.pl_node.proofs.Exports.{nothing_numbered}
+use Rattle.pl_node.proofs.Exports.{nothing_numbered, nothing_registered}
 use Rattle.pl_test_sample.specs.Duties.{grown}
 
 abbrev pub given : SwitchId → ToManager → List ManagerAct
@@ -37,7 +37,8 @@ gives_pods_duly = record {
   heard = λ before s says after acts ruled.
       subst (λ acts. IsTrue (list_all (is_for_heard before s) acts)) (sym ruled.1) (given_to_asker before s says);
   numbered = λ before s says after acts ruled.
-      subst (AreNumbered before.learnt after.learnt) (sym (ap (filter_map numbered_by) ruled.1 ∙ numbers_nothing s says))
-      (subst (λ view. AreNumbered before.learnt view.learnt []) (sym ruled.0) (nothing_numbered before.learnt));
+      subst (AreNumbered before after) (sym (ap (filter_map numbered_by) ruled.1 ∙ numbers_nothing s says))
+      (subst (λ view. AreNumbered before view []) (sym ruled.0) (nothing_numbered before));
+  registers = λ before s says after acts ruled. nothing_registered after acts (ap (filter_map numbered_by) ruled.1 ∙ numbers_nothing s says);
   grows = λ before s says after acts ruled. subst (λ view. IsGrown before s view) (sym ruled.0) (grown before s);
 }

@@ -1,5 +1,5 @@
 ghost use Rattle.std.specs.Prelude.{◌≡◌};
-ghost use Rattle.pl_node.specs.ManagerViews.{booted_manager};
+ghost use Rattle.pl_node.specs.ManagerViews.{restarted_manager};
 ghost use Rattle.pl_test_sample.specs.Giving.{GivesPods, gives_pods_duly};
 
 use crate::Silent;
@@ -17,7 +17,7 @@ pub struct PodGiver {
 }
 
 impl ManagerLogic for PodGiver {
-    ghost view = { λ manager. booted_manager manager.silent.k };
+    ghost view = { λ manager. restarted_manager manager.silent.k manager.silent.epoch };
 
     ghost rule = { GivesPods };
 
@@ -27,6 +27,10 @@ impl ManagerLogic for PodGiver {
         Ok(PodGiver {
             silent: Silent::boot(alloc, k)?,
         })
+    }
+
+    fn restart(&mut self, alloc: Global, epoch: u32) -> Result<(), Memory> {
+        self.silent.restart(alloc, epoch)
     }
 
     fn hears(
@@ -39,6 +43,14 @@ impl ManagerLogic for PodGiver {
             ToManager::PodWanted => out.push(ManagerAct::Say(switch, ToSwitch::Pod(0))),
             _ => Ok(()),
         }
+    }
+
+    fn epoch(&self) -> u32 {
+        self.silent.epoch()
+    }
+
+    fn reported(&self) -> usize {
+        self.silent.reported()
     }
 
     fn lookup(&self, ip: Ip4) -> Option<Pmac> {

@@ -1,5 +1,5 @@
 ghost use Rattle.std.specs.Prelude.{◌≡◌, []};
-ghost use Rattle.pl_node.specs.ManagerViews.{booted_manager};
+ghost use Rattle.pl_node.specs.ManagerViews.{restarted_manager};
 ghost use Rattle.pl_test_sample.specs.Duties.{says_nothing_duly};
 ghost use Rattle.pl_test_sample.specs.Silence.{SaysNothing};
 
@@ -16,12 +16,13 @@ const FLOOD: u32 = 8_388_608;
 #[derive(Drop)]
 pub struct Silent {
     k: u8,
+    epoch: u32,
     avoid: AvoidList,
     ghost nothing: { avoid ≡ [] },
 }
 
 impl ManagerLogic for Silent {
-    ghost view = { λ manager. booted_manager manager.k };
+    ghost view = { λ manager. restarted_manager manager.k manager.epoch };
 
     ghost rule = { SaysNothing };
 
@@ -30,8 +31,14 @@ impl ManagerLogic for Silent {
     fn boot(alloc: Global, k: u8) -> Result<Silent, Memory> {
         Ok(Silent {
             k,
+            epoch: 0,
             avoid: AvoidList::new(alloc),
         })
+    }
+
+    fn restart(&mut self, _alloc: Global, epoch: u32) -> Result<(), Memory> {
+        self.epoch = epoch;
+        Ok(())
     }
 
     fn hears(
@@ -41,6 +48,14 @@ impl ManagerLogic for Silent {
         _out: &mut ManagerOutbox,
     ) -> Result<(), Memory> {
         Ok(())
+    }
+
+    fn epoch(&self) -> u32 {
+        self.epoch
+    }
+
+    fn reported(&self) -> usize {
+        0
     }
 
     fn lookup(&self, _ip: Ip4) -> Option<Pmac> {

@@ -2,6 +2,7 @@ ghost use Rattle.std.specs.Prelude.{◌≤◌, IfSome};
 
 use crate::fabric::play_world;
 use crate::host::play_host;
+use crate::manager::play_manager;
 use crate::script::play_script;
 use crate::topology::play_wiring;
 use pl_arp::Me;
@@ -110,6 +111,7 @@ impl Gathered {
             "host" => self.host(alloc, words, rest, out),
             "world" => self.world(alloc, words, rest, out),
             "wiring" => play_wiring(alloc, self.topology.as_str(), words, rest, out),
+            "manager" => play_manager(alloc, self.topology.as_str(), rest, out),
             "script" => play_script(alloc, self.topology.as_str(), rest, out),
             _ => refuse(out),
         }

@@ -3,9 +3,9 @@
 //!
 //! A scenario begins with what the part needs (`gathered.rt`): `known MAC IP` for each host of the
 //! topology and then `host MAC IP`, or the lines of a topology between `topology` and `end` and then
-//! `world SWITCHES STEPS ENTRIES BYTES`, `wiring` or `script`. What can be said to a host stands in
-//! `host.rt`, to a world in `fabric.rt`, `event.rt`, `looks.rt` and `settling.rt`, to a wiring in `topology.rt`, to a
-//! script in `script.rt`. A frame is written in hexadecimal, and `+N` behind it stands for N more bytes of
+//! `world SWITCHES STEPS ENTRIES BYTES`, `wiring`, `manager` or `script`. What can be said to a host stands in
+//! `host.rt`, to a world in `fabric.rt`, `event.rt`, `looks.rt` and `settling.rt`, to a wiring in `topology.rt`, to the
+//! manager in `manager.rt`, to a script in `script.rt`. A frame is written in hexadecimal, and `+N` behind it stands for N more bytes of
 //! zero. A line that begins with `#` is printed as it is, and with `new` another scenario begins.
 #![tactic(auto)]
 
@@ -15,6 +15,7 @@ mod fabric;
 mod gathered;
 mod host;
 mod looks;
+mod manager;
 mod script;
 mod settling;
 mod topology;

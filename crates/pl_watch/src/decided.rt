@@ -1,4 +1,4 @@
-ghost use Rattle.pl_law_runs.proofs.Exports.{exact_leaves_no_choice, manager_rule_leaves_no_choice};
+ghost use Rattle.pl_law_runs.proofs.Exports.{exact_leaves_no_choice, whole_rule_leaves_no_choice};
 ghost use Rattle.pl_law_runs.specs.NoChoice.{LeavesManagerNoChoice, LeavesSwitchNoChoice};
 
 use pl_manager::Manager;
@@ -20,5 +20,5 @@ impl DecidedSwitch for TableSwitch {
 }
 
 impl DecidedManager for Manager {
-    ghost no_choice = { manager_rule_leaves_no_choice };
+    ghost no_choice = { whole_rule_leaves_no_choice };
 }

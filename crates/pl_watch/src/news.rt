@@ -14,10 +14,10 @@ use crate::row::{
     Row, UNKNOWN, Verb, Words, number, one, part, pod, port, switch, switch_if_known, text, three,
     two,
 };
-use crate::same::{is_same_attempt, is_same_hold, is_same_part, is_same_place, is_same_port};
+use crate::same::{is_same_attempt, is_same_hold, is_same_part, is_same_port};
 use crate::told::Told;
 use pl_frame::{Memory, SwitchId};
-use pl_node::{AvoidList, Neighbour, PortRecord, SwitchFacts, TreePart};
+use pl_node::{AvoidList, Neighbour, PortRecord, SwitchFacts, TreePart, is_same_place};
 use pl_shelf::Shelf;
 use pl_world_parts::WiringIndex;
 

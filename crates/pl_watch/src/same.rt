@@ -1,43 +1,14 @@
 ghost use Rattle.std.specs.Prelude.{◌≡◌};
 ghost use Rattle.std.specs.Option.{option_copied};
 ghost use Rattle.pl_layouts.specs.Equality.{same_switch};
-ghost use Rattle.pl_layouts.specs.Placement.{same_number, same_place};
 ghost use Rattle.pl_watch.specs.Looks.{same_kind, same_label, same_look};
 ghost use Rattle.pl_watch.specs.News.{same_attempt, same_bool, same_hold, same_ids, same_neighbour, same_option, same_part, same_port};
 
 use crate::kind::Kind;
 use crate::look::Look;
 use pl_frame::SwitchId;
-use pl_node::{Neighbour, Place, PortRecord, TreePart};
+use pl_node::{Neighbour, PortRecord, TreePart, is_same_place};
 use pl_wiring::SwitchNo;
-
-pub(crate) fn is_same_place(a: Place, b: Place) -> bool
-    ensures { result ≡ same_place a b }
-{
-    is_same_number(a.level, b.level)
-        && is_same_number(a.position, b.position)
-        && is_same_pod(a.pod, b.pod)
-}
-
-fn is_same_number(a: Option<u8>, b: Option<u8>) -> bool
-    ensures { result ≡ same_number a b }
-{
-    match (a, b) {
-        (Some(a), Some(b)) => a == b,
-        (None, None) => true,
-        _ => false,
-    }
-}
-
-fn is_same_pod(a: Option<u16>, b: Option<u16>) -> bool
-    ensures { result ≡ same_number a b }
-{
-    match (a, b) {
-        (Some(a), Some(b)) => a == b,
-        (None, None) => true,
-        _ => false,
-    }
-}
 
 fn is_same_bool(a: bool, b: bool) -> bool
     ensures { result ≡ same_bool a b }

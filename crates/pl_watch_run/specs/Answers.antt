@@ -2,7 +2,7 @@
 use Rattle.std.specs.Prelude.{◌≡◌, ◌<◌, Option, None, Some, Err}
 use Rattle.pl_shelf.specs.Held.{Held, Same, ShelfMoment, standard_output}
 use Rattle.pl_host_rule.specs.HostRule.{host_rule}
-use Rattle.pl_manager_rule.specs.ManagerRule.{manager_rule}
+use Rattle.pl_manager_rule.specs.WholeRule.{whole_rule}
 use Rattle.pl_switch_rule.specs.SwitchRule.{Exact}
 use Rattle.pl_node.specs.HostInputs.{HostRule}
 use Rattle.pl_node.specs.ManagerDuties.{ManagerRule}
@@ -52,7 +52,7 @@ pub data Answers (old new : ShelfMoment) (asked : Watching) (e : Status) : Type 
   NamesNone : (i : Inputs) → AreRead old.held asked.files i → look_of i.plan.k asked ≡ None → e ≡ status.Usage → IsUntouched old new →
       Answers old new asked e
   IsShown : (i : Inputs) → AreRead old.held asked.files i → (look : Look) → look_of i.plan.k asked ≡ Some look →
-      EndsWatching Exact manager_rule host_rule look i new e → Answers old new asked e
+      EndsWatching Exact whole_rule host_rule look i new e → Answers old new asked e
 
 -- Words that ask for nothing are answered so, and nothing is read.
 abbrev pub AnswersWords : ShelfMoment → ShelfMoment → Option Watching → Status → Type 0

@@ -10,11 +10,11 @@ pub use Rattle.pl_world.proofs.Counts.{all_at, all_found, all_set, begun-append,
 pub use Rattle.pl_world.proofs.Drops.{step_drops, step_takes}
 pub use Rattle.pl_world.proofs.Happenings.{asked_by, Happened, happened}
 pub use Rattle.pl_world.proofs.Happenings.Happened.{Asked, Departed, Failed, FromHost, Lost, Ordered, OutOfPort, OverLink, PlayedFrame, Repaired, Reported, Ticked}
-pub use Rattle.pl_world.proofs.Hearing.{can_hear_each}
+pub use Rattle.pl_world.proofs.Hearing.{can_hear_each, heard_one_more, switches_of_tree}
 pub use Rattle.pl_world.proofs.KeptSwitches.{acts_switches}
 pub use Rattle.pl_world.proofs.Knowing.{step_within}
 pub use Rattle.pl_world.proofs.Leaving.{acts_left, Amid, emptied_out_left, empties_of, failed_left, host_acts_left, manager_acts_left, moved_left, repaired_left, switch_acts_left, SwitchesWrite, Takes, Writes}
-pub use Rattle.pl_world.proofs.Looser.{run_allowed, run_looser}
+pub use Rattle.pl_world.proofs.Looser.{run_allowed, run_holds, run_looser, step_holds}
 pub use Rattle.pl_world.proofs.Refusing.{live_before, place_is_free, port_exists, port_within, there_is}
 pub use Rattle.pl_world.proofs.Runs.{marked_counted, marked_within, run_is_counted}
 pub use Rattle.pl_world.proofs.SameLinks.{same_states}

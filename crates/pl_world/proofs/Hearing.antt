@@ -12,7 +12,7 @@ use Rattle.pl_layouts.proofs.Exports.{switch_itself}
 use Rattle.pl_node.specs.ManagerFacts.{CanHear, heard}
 use Rattle.pl_node.specs.ManagerFacts as facts
 use Rattle.pl_node.specs.ManagerDuties.{IsGrown}
-use Rattle.pl_node.specs.ManagerViews.{ManagerView, id_cmp, in_order, is_heard, speakers}
+use Rattle.pl_node.specs.ManagerViews.{ManagerView, id_cmp, in_order, is_heard, numbers_before, speakers}
 use Rattle.pl_node.proofs.Exports.{among_of_Contains, among_ordered, any_among, holds_of, id_total, IsAmong, rising_in_order}
 use Rattle.pl_world.specs.Hearing.{HeardWithin}
 
@@ -65,7 +65,7 @@ by_half h =
     ap (λ n. n * (2 * h)) five ∙ mul_assoc 10 h (2 * h) ∙ ap (λ n. 10 * n) (mul_comm h (2 * h) ∙ squares) ∙ twenty (h * h) in
     rw (half, squares, all) (omega arith)
 
-switches_of_tree : (k : ℕ) → IsArity k → switch_count k ≡ facts.switch_count k
+pub switches_of_tree : (k : ℕ) → IsArity k → switch_count k ≡ facts.switch_count k
 switches_of_tree k is = let even : 2 * (k / 2) ≡ k = (let e = is.even in omega arith) in
     subst (λ n. switch_count n ≡ facts.switch_count n) even (by_half (k / 2))
 
@@ -90,7 +90,7 @@ can_hear_each plan view steps is within few s id found =
     let many : length plan.ids ≡ facts.switch_count view.k = is.ids_many ∙ switches_of_tree plan.k is.arity ∙ ap facts.switch_count (sym within.same_k) in
     record {
       switches = subst (λ n. length (in_order id_cmp those) ≤ n) many fits;
-      addresses = let learnt = within.addresses in omega arith;
+      addresses = let learnt = within.addresses in omega (arith, learnt, few);
     }
 
 -- one more switch of the wiring is heard
@@ -102,7 +102,10 @@ heard_one_more plan before after steps s id found grown within = record {
     | inl now ↦ Contains_found plan.ids s t (found ∙ ap Some (same_id id t (eqb-true id.0 t.0 now)))
     | inr then ↦ within.heard t then
   ];
-  addresses = let more = grown.addresses in let some = within.addresses in omega arith;
+  addresses =
+      let more = grown.addresses in let some = within.addresses in
+      let same : numbers_before after.epoch ≡ numbers_before before.epoch = ap numbers_before grown.epoch in
+      omega (arith, more, some, same);
 }
   where
     same_id : (a b : SwitchId) → a.0 ≡ b.0 → a ≡ b
@@ -117,5 +120,5 @@ pub heard_no_more : (plan : Plan) (view : ManagerView) (steps : ℕ) → HeardWi
 heard_no_more plan view steps within = record {
   same_k = within.same_k;
   heard = within.heard;
-  addresses = let some = within.addresses in omega arith;
+  addresses = let some = within.addresses in omega (arith, some);
 }

@@ -3,7 +3,8 @@ use Rattle.pl_law_theorem.proofs.invariant.lawful_logic_keeps_the_invariant.Goal
 
 pub returns : goal.returns
 returns g c = λ plan limits moments new can run.
-    let ruled = c.each_run_of_lawful_logic_is_a_run_of_the_rules.ensures (booted plan limits) moments new run in
+    let of_rules = c.each_run_of_lawful_logic_is_a_run_of_the_rules.ensures in
+    let ruled = of_rules.runs (booted plan limits) moments new (of_rules.begins plan limits) run in
     let loose = c.each_run_is_a_loose_run.ensures (booted plan limits) moments new run in
     record {
       kept = c.lawful_logic_keeps_all_of_it.ensures plan limits moments new can run;

@@ -1,6 +1,5 @@
 -- In a settled fabric links, views and the manager's records agree.
-use Rattle.std.proofs.Common.{◌≡◌, ℕ, zero, ◌<◌, true, Option, Some, slice_get, sym, ap, ◌∙◌, subst, inl, inr, arith}
-use Rattle.std.specs.List.{AllByRecursion}
+use Rattle.std.proofs.Common.{◌≡◌, ℕ, ◌<◌, true, Option, Some, slice_get, sym, ap, ◌∙◌, subst, inl, inr, arith}
 use Rattle.std.proofs.lemmas.Bool.{cases_eq}
 use Rattle.std.proofs.lemmas.List.{get_or_default}
 use Rattle.std.proofs.lemmas.Option.{same_Some, slice_get-get_or}
@@ -13,7 +12,6 @@ use Rattle.pl_wiring.specs.Labels.{label_of, switch_count}
 use Rattle.pl_wiring.specs.LiveLinks.{is_live, is_live_at}
 use Rattle.pl_wiring.specs.Plan.{IsPlan}
 use Rattle.pl_wiring.proofs.Exports.{at_contained, peer_is_switch}
-use Rattle.pl_node.specs.declared.messages.ToManager.TheVariants as tell
 use Rattle.pl_node.specs.ManagerViews.{is_told_usable, place_of, speakers, tellers}
 use Rattle.pl_node.specs.PortRecords.{heard_id, heard_place}
 use Rattle.pl_node.specs.SwitchViews.{SwitchView}
@@ -27,12 +25,13 @@ use Rattle.pl_law_control_plane.proofs.Exports.{adjacent_there, adjacent_turned}
 use Rattle.pl_law_places.specs.Known.{pod_of}
 use Rattle.pl_law_places.proofs.Exports.{one_number}
 use Rattle.pl_law_votes.proofs.Exports.{fixed_are_apart, ids_differ}
-use Rattle.pl_law_pods.specs.Pods.{id_of}
-use Rattle.pl_law_pods.proofs.Exports.{edge_there, known_are_given}
+use Rattle.pl_law_pods.proofs.Exports.{one_pod}
 use Rattle.pl_law_invariant.specs.ControlInvariant.{ControlInvariant}
 use Rattle.pl_law_invariant.proofs.Exports.{grounded}
-use Rattle.pl_law_records.specs.Words.{IsNoReport}
-use Rattle.pl_law_records.proofs.Exports.{neighbours_at_rest, question_reports_nothing}
+use Rattle.pl_law_due.specs.Gathering.{IsNoEnd}
+use Rattle.pl_law_records.specs.Records.{NoReportWaits}
+use Rattle.pl_law_records.specs.Words.{IsNoOrder, IsNoReport}
+use Rattle.pl_law_records.proofs.Exports.{neighbours_at_rest, question_ends_none, question_reports_nothing, reply_orders_nothing}
 use Rattle.pl_law_arrival.specs.Orderly.{IsOrderlyWorld}
 use Rattle.pl_law_arrival.proofs.Calm.{Calm}
 use Rattle.pl_law_arrival.proofs.Ready.{Ready, net}
@@ -84,9 +83,12 @@ module _ (w : WorldView) (order : IsOrderlyWorld w) (is : IsSettled w) where
 
   linked : (s : ℕ) (u : SwitchId) → s < switch_count w.plan.k → is_told_usable w.manager.told (view s).id u ≡ true → (p t q : ℕ) × AreAdjacent w.plan s p t q × ((view t).id ≡ u)
   linked s u within usable =
-      let quiet : (s : ℕ) → AllByRecursion IsNoReport (items_at w.to_manager s) =
-      λ s. all_contained IsNoReport (items_at w.to_manager s) (λ t waits. question_reports_nothing t (is.queues.to_manager s t waits)) in
-      let at = neighbours_at_rest (control_plane w) order.told quiet s (view s).id u (named s within) usable in
+      let rests : NoReportWaits (control_plane w) = record {
+        reports = λ n. all_contained IsNoReport (items_at w.to_manager n) (λ t waits. question_reports_nothing t (is.queues.to_manager n t waits));
+        ends = λ n. all_contained IsNoEnd (items_at w.to_manager n) (λ t waits. question_ends_none t (is.queues.to_manager n t waits));
+        orders = λ n. all_contained IsNoOrder (items_at w.from_manager n) (λ t waits. reply_orders_nothing t (is.queues.from_manager n t waits));
+      } in
+      let at = neighbours_at_rest (control_plane w) plan_is kept.gathered order.told rests s (view s).id u (named s within) usable in
       let beyond = adjacent_there w.plan at.1 at.2 s at.0 plan_is (adjacent_turned w.plan s at.0 at.1 at.2 plan_is at.3) in
       (at.0, at.1, at.2, at.3, same_Some (view at.1).id u (sym (named at.1 beyond.0) ∙ at.4))
 
@@ -95,20 +97,6 @@ module _ (w : WorldView) (order : IsOrderlyWorld w) (is : IsSettled w) where
     | inl is ↦ is
     | inr differ ↦ absurd (ids_differ w.plan plan_is s t here also differ (ap (λ (x : SwitchId). x.0) (sym (kept.voting.ids s) ∙ same ∙ kept.voting.ids t)))
   ]
-
-  -- a number of a pod is of one pod
-  one_pod : (s t x : ℕ) → (view s).place.pod ≡ Some x → (view t).place.pod ≡ Some x → pod_of (label_of w.plan.k s) ≡ pod_of (label_of w.plan.k t)
-  one_pod s t x here also =
-      let f = control_plane w in
-      let a = known_are_given f kept.placed kept.given s x here in
-      let b = known_are_given f kept.placed kept.given t x also in
-      let same = kept.given.gives.apart (id_of w.plan a.0) (id_of w.plan b.0) x a.2 b.2 in
-      let zero : a.0 ≡ b.0 = elim (cases_eq a.0 b.0) [
-        | inl is ↦ is
-        | inr differ ↦ absurd (ids_differ w.plan plan_is a.0 b.0 (edge_there w.plan.k a.0 a.1.pod a.1.i a.1.edge) (edge_there w.plan.k b.0 b.1.pod b.1.i b.1.edge) differ same)
-      ] in
-      let labels : ◌≡◌ {A = Option ℕ} (Some a.1.pod) (Some b.1.pod) = sym (ap pod_of a.1.edge) ∙ ap (λ n. pod_of (label_of w.plan.k n)) zero ∙ ap pod_of b.1.edge in
-      a.1.of_pod ∙ labels ∙ sym b.1.of_pod
 
   calm : Calm (net w)
   calm = record {
@@ -132,7 +120,7 @@ module _ (w : WorldView) (order : IsOrderlyWorld w) (is : IsSettled w) where
     positions = fixed_are_apart w.plan view (control_plane w).says plan_is kept.voting;
     one_number = λ s t x y same here also.
         one_number w.plan (control_plane w) s t x y (fixed_are_apart w.plan view (control_plane w).says plan_is kept.voting) same (kept.placed.pods s x here) (kept.placed.pods t y also);
-    one_pod = one_pod;
+    one_pod = one_pod (control_plane w) kept.placed kept.numbered;
   }
 
   pub ready : Ready w
@@ -140,7 +128,7 @@ module _ (w : WorldView) (order : IsOrderlyWorld w) (is : IsSettled w) where
     calm = calm;
     counted = kept.counted;
     hosts = kept.hosts;
-    grounded = grounded w kept.counted kept.placed kept.voting kept.given;
+    grounded = grounded w kept.counted kept.placed kept.voting kept.numbered;
     addresses = kept.addresses;
     apart = order.apart;
   }

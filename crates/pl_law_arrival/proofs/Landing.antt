@@ -7,8 +7,6 @@ use Rattle.pl_wiring.specs.Peers.{peer_of}
 use Rattle.pl_journal.specs.Places.{is_host_port}
 use Rattle.pl_node.specs.declared.acts.Act.{Act}
 use Rattle.pl_node.specs.declared.acts.Act.TheVariants as act
-use Rattle.pl_node.specs.Accounting.{frame_state}
-use Rattle.pl_node.specs.Accounting.FrameState.{Waiting}
 use Rattle.pl_node.specs.SwitchInputs.{SwitchInput, SwitchRule}
 use Rattle.pl_node.proofs.Exports.{IsAmong}
 use Rattle.pl_queues.specs.Queues.{items_at, put_at}

@@ -1,7 +1,6 @@
 -- What a switch knows after its turn.
 use Rattle.std.proofs.Common.{◌≡◌, ℕ, Some, set, slice_get, ap, ◌∙◌}
 use Rattle.pl_lemmas.proofs.Exports.{set_there}
-use Rattle.pl_node.specs.declared.acts.Act.TheVariants as act
 use Rattle.pl_node.specs.SwitchInputs.{SwitchInput, SwitchRule}
 use Rattle.pl_world.specs.declared.spoken_frame.SpokenFrame.{SpokenFrame as Speech}
 use Rattle.pl_world.specs.SwitchActs.{begins}

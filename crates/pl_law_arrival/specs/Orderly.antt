@@ -4,6 +4,7 @@ use Rattle.pl_frame.specs.declared.address.SwitchId.{SwitchId}
 use Rattle.pl_wiring.specs.Plan.{Plan}
 use Rattle.pl_node.specs.ManagerViews.{ManagerView, is_heard}
 use Rattle.pl_law_control_plane.specs.ControlPlanes.{control_plane}
+use Rattle.pl_law_due.specs.Due.{due_plane}
 use Rattle.pl_law_invariant.specs.ControlInvariant.{ControlInvariant}
 use Rattle.pl_law_records.specs.Records.{HaveToldNeighbours}
 use Rattle.pl_world.specs.declared.attachment.AttachmentPoint.{AttachmentPoint}
@@ -22,5 +23,5 @@ pub record IsOrderlyWorld (w : WorldView) : Type 0 where
   pub kept : ControlInvariant w
   pub heard : HearsWiring w.plan w.manager
   -- links to neighbours alone were told usable
-  pub told : HaveToldNeighbours (control_plane w)
+  pub told : HaveToldNeighbours (due_plane (control_plane w))
   pub apart : AreApart w.attachments

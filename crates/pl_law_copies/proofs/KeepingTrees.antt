@@ -1,4 +1,4 @@
--- Each step of the control plane keeps it that what is told and ordered is so.
+-- Each step of the control plane keeps it that what is told and ordered is so, where the manager treats one word at once.
 use Rattle.std.proofs.Common.{◌≡◌, ℕ, ◌+◌, ◌<◌, ◌==◌, Bool, true, false, cond, if◌then◌else◌, List, [], ◌∷◌, ◌++◌, map, Option, None, Some, get_or, slice_get, unwrap_or, refl, sym, ap, ◌∙◌, subst, inl, inr, true≢false}
 use Rattle.std.specs.List.{AllByRecursion, flat_map, position}
 use Rattle.std.specs.Ordering.{match_ordering, nat_cmp}
@@ -32,7 +32,7 @@ use Rattle.pl_node.specs.declared.messages.TreePart.{TreePart}
 use Rattle.pl_node.specs.declared.switch_records.Member.{Member}
 use Rattle.pl_node.specs.AvoidLists.{avoid_list}
 use Rattle.pl_node.specs.ManagerFacts.{groups}
-use Rattle.pl_node.specs.ManagerViews.{Learnt, ManagerView, Registration, id_cmp, link_cmp, lookup, members_cmp, newest}
+use Rattle.pl_node.specs.ManagerViews.{Learnt, ManagerView, Registration, Told, id_cmp, link_cmp, lookup, members_cmp, newest}
 use Rattle.pl_node.specs.PortRecords.{id_at, is_open_to_hosts, port_of}
 use Rattle.pl_node.specs.SwitchInputs.{SwitchInput}
 use Rattle.pl_node.specs.SwitchInputs.SwitchInput.{Comes, Says, Tick}
@@ -49,6 +49,8 @@ use Rattle.pl_switch_rule.specs.SwitchRule.{Loose, comes_from_switch, control_co
 use Rattle.pl_law_control_plane.specs.ControlPlanes.{AreAdjacent, ControlPlane, tells}
 use Rattle.pl_law_control_plane.specs.PlaneSteps.{IsLeft, IsReportTaken, LeftOver, ManagerTurns, PlaneStep, SwitchTurns, is_to, ordered, ordered_by}
 use Rattle.pl_law_control_plane.specs.PlaneSteps.PlaneStep.{Carried, Entered, Heard, Left, Managed, Ordered, Ticked}
+use Rattle.pl_law_due.specs.DueSteps.{treats_one}
+use Rattle.pl_law_due.proofs.Exports.{heard_or_noted, IsRelease, Learns}
 use Rattle.pl_law_places.specs.Places.{ArePlaced}
 use Rattle.pl_law_places.specs.Told.{IsTrueOf}
 use Rattle.pl_law_places.proofs.Exports.{true_later, true_of_itself}
@@ -411,6 +413,51 @@ module _ (plan : Plan) (f : ControlPlane) (placed : ArePlaced plan f) where
       by_members [] all any = absurd (false≢true any)
       by_members (m ∷ members) all any = sym (level_is s 0 ((placed.sound s there).full.host m.port all.0))
 
+-- The same is known of switches.
+
+module _ (plan : Plan) (is : IsPlan plan) where
+  pub like_trees : (f g : ControlPlane) → ((s : ℕ) → g.view s ≡ f.view s) → ((s : ℕ) → AllByRecursion (IsTrueReport plan s (f.view s).place) (g.reports s)) →
+      g.manager.told ≡ f.manager.told → g.manager.members ≡ f.manager.members → ((s : ℕ) → AllByRecursion (IsTrueOrder plan (level_of plan.k s)) (g.orders s)) →
+      AreTrees plan f → AreTrees plan g
+  like_trees f g view reports told members orders trees = record {
+    reports = λ s. subst (λ (v : SwitchView). AllByRecursion (IsTrueReport plan s v.place) (g.reports s)) (sym (view s)) (reports s);
+    places = subst (λ (x : Told). AllByRecursion (IsTruePlace plan g.view) x.places) (sym told)
+        (places_later plan f.view g.view (λ t. subst (λ (v : SwitchView). IsTrueOf (f.view t).place v.place) (sym (view t)) (true_of_itself (f.view t).place))
+        f.manager.told.places trees.places);
+    links = subst (λ (x : Told). AllByRecursion (IsTrueLink plan) x.links) (sym told) trees.links;
+    members = subst (AllByRecursion (AreTrueMembers plan)) (sym members) trees.members;
+    orders = orders;
+    held = λ s. subst (λ (v : SwitchView). AllByRecursion (λ part. IsTruePart plan (level_of plan.k s) (Some part.1)) v.parts) (sym (view s)) (trees.held s);
+  }
+
+  -- a release leads nowhere
+  release_true : (r : ℕ) (says : ToSwitch) → IsRelease says → IsTrueOrder plan r says
+  release_true r (say.Release x) released = tt
+  release_true r (say.Pod n) released = absurd released
+  release_true r (say.Answer a b c d) released = absurd released
+  release_true r (say.Flood a b c) released = absurd released
+  release_true r (say.Avoid list) released = absurd released
+  release_true r (say.Invalidate a b c d) released = absurd released
+  release_true r (say.Hello epoch) released = absurd released
+  release_true r (say.Tree group part) released = absurd released
+
+  -- the manager learns of addresses, and releases some
+  pub learns_trees : (f g : ControlPlane) → Learns f g → ((s : ℕ) → g.reports s ≡ f.reports s) → AreTrees plan f → AreTrees plan g
+  learns_trees f g learns reports trees =
+      like_trees f g learns.alike.view (λ s. subst (AllByRecursion (IsTrueReport plan s (f.view s).place)) (sym (reports s)) (trees.reports s))
+      (ap (λ (v : ManagerView). v.told) learns.manager) (ap (λ (v : ManagerView). v.members) learns.manager)
+      (λ s. subst (AllByRecursion (IsTrueOrder plan (level_of plan.k s))) (sym (learns.orders s))
+      (all_append (IsTrueOrder plan (level_of plan.k s)) (f.orders s) (learns.more s) (trees.orders s)
+      (all_weaker IsRelease (IsTrueOrder plan (level_of plan.k s)) (release_true (level_of plan.k s)) (learns.more s) (learns.releases s))))
+      trees
+
+  pub treated_trees : (f m g : ControlPlane) (s : ℕ) (id : SwitchId) (told : ToManager) → f.plan ≡ plan → ((t : ℕ) → IsLevel (level_of plan.k t) (f.view t).place) →
+      slice_get plan.ids s ≡ Some id → IsReportTaken f s told m → ManagerTurns treats_one m id told g → AreTrees plan f → AreTrees plan g
+  treated_trees f m g s id told same level named taken turns trees = elim (heard_or_noted m g id told turns) [
+    | inl ruled ↦ manager_trees plan is f m g s id told same level named taken ruled trees
+    | inr noted ↦ learns_trees m g noted.1 turns.reports (left_trees plan is f m taken.left trees)
+  ]
+
 -- A step of the control plane.
 
 module _ (plan : Plan) (is : IsPlan plan) (f g : ControlPlane) (same : f.plan ≡ plan) (before : ArePlaced plan f)
@@ -472,7 +519,7 @@ module _ (plan : Plan) (is : IsPlan plan) (f g : ControlPlane) (same : f.plan �
   edge_rank : (s : ℕ) → s < edge_count plan.k → level_of plan.k s ≡ 0
   edge_rank s edge = ap label_level (label_of-edge plan.k s edge)
 
-  pub plane_trees : AreTrees plan f → PlaneStep Loose manager_rule f g → AreTrees plan g
+  pub plane_trees : AreTrees plan f → PlaneStep Loose treats_one f g → AreTrees plan g
   plane_trees trees (Left left) = left_trees plan is f g left trees
   plane_trees trees (Ticked s turns) =
       turn f s Tick turns (λ t. refl) (ticks_true (λ place. IsTrueOf place (g.view s).place) (level_of plan.k s ≡ 0) (f.view s) (grown s)) (λ says e. absurd (cc)) trees
@@ -502,4 +549,4 @@ module _ (plan : Plan) (is : IsPlan plan) (f g : ControlPlane) (same : f.plan �
       said_is : (a b : ToSwitch) → Says a ≡ Says b → a ≡ b
       said_is a b e = ap said_of e
   plane_trees trees (Managed s id told mid there named taken turns) =
-      manager_trees plan is f mid g s id told same (level_is plan f before) (ap (λ (p : Plan). slice_get p.ids s) (sym same) ∙ named) taken turns trees
+      treated_trees plan is f mid g s id told same (level_is plan f before) (ap (λ (p : Plan). slice_get p.ids s) (sym same) ∙ named) taken turns trees

@@ -9,5 +9,6 @@ pub mod Alone
 pub mod Parts
 pub mod TellingTrue
 pub mod KeepingTrees
+pub mod DueTrees
 pub mod TreesInRuns
 pub mod Exports

@@ -11,7 +11,6 @@ use Rattle.pl_node.specs.SwitchViews.{SwitchView}
 use Rattle.pl_steps.specs.Steps.{SwitchStep}
 use Rattle.pl_switch_rule.specs.Announcing.{ticks}
 use Rattle.pl_switch_rule.specs.Forwarding.{Choice}
-use Rattle.pl_switch_rule.specs.Granting.{granted}
 use Rattle.pl_switch_rule.specs.Intake.{comes_from_host, has_member_of}
 use Rattle.pl_switch_rule.specs.Messages.{hears_manager}
 use Rattle.pl_switch_rule.specs.SwitchRule.{comes_from_switch, control_comes}

@@ -30,23 +30,27 @@ use Rattle.pl_world.proofs.Exports.{all_found}
 use Rattle.pl_law_control_plane.specs.ControlPlanes.{AreAdjacent, ControlPlane, control_plane, no_switch}
 use Rattle.pl_law_control_plane.specs.HostsAtEdges.{IsAtEdge}
 use Rattle.pl_law_control_plane.proofs.Exports.{adjacent_turned, plan_stays, step_in_plane}
+use Rattle.pl_law_due.specs.Due.{due_plane}
+use Rattle.pl_law_due.proofs.Exports.{nothing_due}
+use Rattle.pl_law_places.specs.Places.{ArePlaced}
 use Rattle.pl_law_votes.proofs.Exports.{fixed_are_apart}
-use Rattle.pl_law_pods.proofs.Exports.{numbers_fit}
+use Rattle.pl_law_pods.proofs.Exports.{numbers_told}
 use Rattle.pl_law_placing.proofs.Exports.{seen_later, step_seen}
 use Rattle.pl_law_invariant.specs.ControlInvariant.{ControlInvariant}
-use Rattle.pl_law_invariant.proofs.Exports.{grounded, run_keeps_all}
+use Rattle.pl_law_invariant.proofs.Exports.{grounded, run_keeps_all, world_due}
 use Rattle.pl_law_records.specs.Records.{is_neighbour}
 use Rattle.pl_law_records.proofs.Exports.{names_neighbours, neighbour_is}
 use Rattle.pl_law_copies.specs.Copies.{ComesOnce}
 use Rattle.pl_law_copies.specs.Standing.{KnowTrees, KnowsTree}
 use Rattle.pl_law_copies.proofs.CopiesInRuns.{mark_once, once_at_first, step_once}
 use Rattle.pl_law_copies.specs.Trees.{AreTrees, IsTrueOrder, IsTruePart, IsTrueReport, PartLeadsOn}
-use Rattle.pl_law_copies.proofs.KeepingTrees.{level_is, plane_trees}
+use Rattle.pl_law_copies.proofs.DueTrees.{due_trees}
+use Rattle.pl_law_copies.proofs.KeepingTrees.{level_is}
 use Rattle.pl_law_copies.proofs.Parts.{found_true}
 use Rattle.pl_journal.specs.Flights.{level_of}
 
 -- where places are true and parts lead down, switches know the tree around them
-module _ (w : WorldView) (kept : ControlInvariant w) (trees : AreTrees w.plan (control_plane w)) where
+module _ (w : WorldView) (kept : ControlInvariant w) (trees : AreTrees w.plan (due_plane (control_plane w))) where
   f : ControlPlane
   f = control_plane w
 
@@ -104,7 +108,7 @@ module _ (w : WorldView) (kept : ControlInvariant w) (trees : AreTrees w.plan (c
           up = λ group part q u r id has peer known. (held_part t group part has).up u.0 id (named_there t q u r id peer known);
           down = λ group part q u r id has peer known. (held_part t group part has).down u.0 id (named_there t q u r id peer known);
         });
-    closed = (grounded w kept.counted kept.placed kept.voting kept.given).neighbours;
+    closed = (grounded w kept.counted kept.placed kept.voting kept.numbered).neighbours;
   }
 
 -- At the beginning nothing was told.
@@ -114,9 +118,9 @@ new_parts [] k s = refl
 new_parts (id ∷ ids) k zero = refl
 new_parts (id ∷ ids) k (suc s) = new_parts ids k s
 
-trees_at_first : (plan : Plan) (limits : Limits) → AreTrees plan (control_plane (booted plan limits))
+trees_at_first : (plan : Plan) (limits : Limits) → AreTrees plan (due_plane (control_plane (booted plan limits)))
 trees_at_first plan limits = record {
-  reports = λ s. subst (AllByRecursion (IsTrueReport plan s ((control_plane (booted plan limits)).view s).place)) (sym (replicated (switch_count plan.k) s [])) tt;
+  reports = λ s. subst (AllByRecursion (IsTrueReport plan s ((control_plane (booted plan limits)).view s).place)) (sym (nothing_due (control_plane (booted plan limits)) refl s (replicated (switch_count plan.k) s []))) tt;
   places = tt;
   links = tt;
   members = tt;
@@ -124,9 +128,13 @@ trees_at_first plan limits = record {
   held = λ s. subst (AllByRecursion (λ part. IsTruePart plan (level_of plan.k s) (Some part.1))) (sym (new_parts plan.ids plan.k s)) tt;
 }
 
+-- what switches know of places goes not by what is due
+placed_due : (plan : Plan) (f : ControlPlane) → ArePlaced plan f → ArePlaced plan (due_plane f)
+placed_due plan f placed = record { links = placed.links; strangers = placed.strangers; own = placed.own; pods = placed.pods; sound = placed.sound }
+
 -- both at once
 pub record HoldsOnce (w : WorldView) : Type 0 where
-  pub trees : AreTrees w.plan (control_plane w)
+  pub trees : AreTrees w.plan (due_plane (control_plane w))
   pub come : ComesOnce w
 
 module _ (host : HostRule) (sends : HostsSendData host) (owns : HostsSendOwn host) where
@@ -146,13 +154,15 @@ module _ (host : HostRule) (sends : HostsSendData host) (owns : HostsSendOwn hos
       let taken = step_in_plane Loose manager_rule host loose_steps_are_accounted old event rest.0 kept.counted kept.hosts rest.1.0 rest.1.1 in
       let same = plan_stays Loose manager_rule (control_plane old) (control_plane rest.0) taken in
       let grown = seen_later (control_plane old) (control_plane rest.0) (step_seen manager_rule (control_plane old) (control_plane rest.0) kept.counted.formed.plan kept.placed
-      (fixed_are_apart old.plan (control_plane old).view (control_plane old).says kept.counted.formed.plan kept.voting) (numbers_fit (control_plane old) kept.counted.formed.plan kept.given) taken) in
+      (fixed_are_apart old.plan (control_plane old).view (control_plane old).says kept.counted.formed.plan kept.voting) (numbers_told (control_plane old) kept.counted.formed.plan kept.gathered kept.numbered) taken) in
       let near : (s p : ℕ) (u : SwitchId) → id_at ((control_plane rest.0).view s) p ≡ Some u → is_neighbour old.plan s u ≡ true = λ s p u at.
       let names = names_neighbours rest.0 after s p u at in
       subst (λ (x : Plan). is_neighbour x s u ≡ true) same (neighbour_is rest.0.plan s p names.0 names.1 u after.counted.formed.plan names.2 names.3) in
-      let trees = plane_trees old.plan kept.counted.formed.plan (control_plane old) (control_plane rest.0) refl kept.placed grown near holds.trees taken in
+      let due = world_due host old event rest.0 kept rest.1.0 rest.1.1 in
+      let trees = due_trees old.plan kept.counted.formed.plan (due_plane (control_plane old)) (due_plane (control_plane rest.0)) refl
+      (placed_due old.plan (control_plane old) kept.placed) grown near holds.trees due in
       once_from plan limits can (before ++ Step event ∷ []) rest.0 longer (record {
-        trees = subst (λ (p : Plan). AreTrees p (control_plane rest.0)) (sym same) trees;
+        trees = subst (λ (p : Plan). AreTrees p (due_plane (control_plane rest.0))) (sym same) trees;
         come = step_once manager_rule host old event rest.0 kept.counted (know_trees old kept holds.trees) rest.1.0 rest.1.1 holds.come;
       }) moments new rest.2
   once_from plan limits can before old run holds (Mark entry ∷ moments) new rest =

@@ -1,4 +1,4 @@
-ghost use Rattle.std.specs.Prelude.{◌≤◌, ℕ, List, reverse};
+ghost use Rattle.std.specs.Prelude.{◌≡◌, ◌≤◌, ℕ, List, reverse};
 ghost use Rattle.pl_wiring.specs.Plan.{Plan};
 ghost use Rattle.pl_journal.specs.Lossy.{copies_at};
 ghost use Rattle.pl_journal.specs.Places.{EdgePort};
@@ -8,7 +8,9 @@ ghost use Rattle.pl_world.specs.declared.limits.Limits.{Limits};
 ghost use Rattle.pl_world.specs.Booting.{CanBegin, booted};
 ghost use Rattle.pl_world.specs.Runs.{InEveryRun, Moment, WorldRun};
 ghost use Rattle.pl_world.specs.Worlds.{WorldView};
-ghost use Rattle.pl_law_control_plane.specs.ControlPlanes.{control_plane};
+ghost use Rattle.pl_law_control_plane.specs.ControlPlanes.{ControlPlane, control_plane};
+ghost use Rattle.pl_law_due.specs.Due.{due_plane};
+ghost use Rattle.pl_law_due.specs.DueSteps.{Restarts};
 ghost use Rattle.pl_law_copies.specs.Alone.{AreAlone};
 ghost use Rattle.pl_law_copies.specs.Copies.{ComesOnce, came_to};
 ghost use Rattle.pl_law_copies.specs.Standing.{KnowTrees};
@@ -18,11 +20,13 @@ use pl_manager_rule::LawfulManager;
 use pl_node::HostLogic;
 use pl_switch_rule::LooseSwitch;
 
-/// In every run what switches tell, and what waits or is recorded of it, is so: each known part of a place is the
+/// In every run what switches tell, and what is due or recorded of it, is so: each known part of a place is the
 /// switch's own, each link is to a neighbour by the wiring, and edge switches alone tell of members. And each part
-/// of a tree leads up to the next level and down to the one before. So each switch knows the tree around it.
+/// of a tree leads up to the next level and down to the one before. So each switch knows the tree around it. A manager
+/// that begins anew leaves it so.
 pub fn what_is_told_and_ordered_is_so_in_every_run<H: HostLogic>()
-    ensures trees { InEveryRun Loose manager_rule H.rule (λ new. AreTrees new.plan (control_plane new)) }
+    ensures trees { InEveryRun Loose manager_rule H.rule (λ new. AreTrees new.plan (due_plane (control_plane new))) }
+    ensures restarts { (plan : Plan) (f g : ControlPlane) → Restarts f g → AreTrees plan f → AreTrees plan g }
     ensures around { InEveryRun Loose manager_rule H.rule KnowTrees }
 {}
 

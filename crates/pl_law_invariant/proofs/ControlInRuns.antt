@@ -22,9 +22,10 @@ use Rattle.pl_world.specs.WorldRule.{WorldStep}
 use Rattle.pl_world.specs.Worlds.{WorldView}
 use Rattle.pl_world.proofs.Exports.{booted_is_counted, marked_counted}
 use Rattle.pl_law_control_plane.proofs.Exports.{hosts_at_first}
+use Rattle.pl_law_due.proofs.Exports.{agree_at_first, gathers_at_first}
 use Rattle.pl_law_places.proofs.Exports.{placed_at_first}
 use Rattle.pl_law_votes.proofs.Exports.{votes_at_first}
-use Rattle.pl_law_pods.proofs.Exports.{given_at_first}
+use Rattle.pl_law_pods.proofs.Exports.{numbered_at_first}
 use Rattle.pl_law_addresses.proofs.Exports.{boots_in_order, InOrder, mark_quiet, no_moment, one_quiet, Parts}
 use Rattle.pl_law_addresses.specs.InOrder.{AddressesAreInOrder}
 use Rattle.pl_law_invariant.specs.ControlInvariant.{ControlInvariant}
@@ -40,8 +41,10 @@ kept_at_first plan limits can =
       hosts = hosts_at_first plan can.is_plan;
       placed = placed_at_first plan limits can.is_plan;
       voting = votes_at_first plan limits;
-      given = given_at_first plan limits;
+      numbered = numbered_at_first plan limits;
       addresses = record { addressed = order.addressed; own = order.own; once = order.once };
+      gathered = gathers_at_first plan limits can.is_plan;
+      epochs = agree_at_first plan limits;
       first = first_at_first plan limits;
     }
 
@@ -65,8 +68,10 @@ mark_keeps w e is before = record {
   hosts = before.hosts;
   placed = before.placed;
   voting = before.voting;
-  given = before.given;
+  numbered = before.numbered;
   addresses = mark_in_order w e is before.addresses;
+  gathered = before.gathered;
+  epochs = before.epochs;
   first = before.first;
 }
 

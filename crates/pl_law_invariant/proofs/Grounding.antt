@@ -1,7 +1,6 @@
--- Where places are true, votes are in order and numbers are those that were given, placed edge switches stand apart, and no switch takes
+-- Where places are true, and votes and numbers of pods are in order, placed edge switches stand apart, and no switch takes
 -- another switch for a host.
-use Rattle.std.proofs.Common.{◌≡◌, ℕ, ◌&&◌, Bool, true, false, List, [], Some, refl, sym, ap, subst, arith, inl, inr}
-use Rattle.std.proofs.lemmas.Bool.{cases_eq}
+use Rattle.std.proofs.Common.{◌≡◌, ℕ, ◌&&◌, Bool, true, false, List, [], Some, refl, sym, ap, subst, arith}
 use Rattle.std.proofs.lemmas.Option.{get_or_from_slice_get}
 use Rattle.pl_pmac.specs.declared.pmac.Pmac.{Pmac}
 use Rattle.pl_wiring.specs.declared.label.Label.{Label}
@@ -22,12 +21,12 @@ use Rattle.pl_world.specs.Flying.{IsCounted}
 use Rattle.pl_world.specs.Worlds.{WorldView}
 use Rattle.pl_law_control_plane.specs.ControlPlanes.{ControlPlane, control_plane, has_data, is_data_item, no_switch}
 use Rattle.pl_law_control_plane.proofs.Exports.{adjacent_there}
-use Rattle.pl_law_places.specs.Known.{IsZeroOf, pod_of}
+use Rattle.pl_law_places.specs.Known.{pod_of}
 use Rattle.pl_law_places.specs.Places.{ArePlaced}
 use Rattle.pl_law_votes.specs.Voting.{AreVoting, FixedAreApart}
-use Rattle.pl_law_votes.proofs.Exports.{fixed_are_apart, ids_differ}
-use Rattle.pl_law_pods.specs.Pods.{ArePodsGiven, id_of}
-use Rattle.pl_law_pods.proofs.Exports.{edge_there}
+use Rattle.pl_law_votes.proofs.Exports.{fixed_are_apart}
+use Rattle.pl_law_pods.specs.Numbering.{AreNumbered}
+use Rattle.pl_law_pods.proofs.Exports.{one_zero}
 use Rattle.pl_law_addresses.specs.Addressed.{IsGrounded}
 use Rattle.pl_journal.specs.Flights.{label_level}
 
@@ -54,21 +53,12 @@ stands v x is =
     and_both true false is = absurd (cc is)
     and_both false b is = absurd (cc is)
 
-module _ (f : ControlPlane) (is : IsPlan f.plan) (placed : ArePlaced f.plan f) (apart : FixedAreApart f.plan f.view) (given : ArePodsGiven f) where
-  -- the edge switches of position 0 of pods with one number are one
-  one_zero : (s t n z y : ℕ) → IsZeroOf f.plan.k f.view s n z → IsZeroOf f.plan.k f.view t n y → z ≡ y
-  one_zero s t n z y zero other = elim (cases_eq z y) [
-    | inl same ↦ same
-    | inr differ ↦
-        let same = given.gives.apart (id_of f.plan z) (id_of f.plan y) n (given.known z n zero.position zero.number) (given.known y n other.position other.number) in
-        absurd (ids_differ f.plan is z y (edge_there f.plan.k z zero.pod zero.i zero.edge) (edge_there f.plan.k y other.pod other.i other.edge) differ same)
-  ]
-
+module _ (f : ControlPlane) (is : IsPlan f.plan) (placed : ArePlaced f.plan f) (apart : FixedAreApart f.plan f.view) (numbered : AreNumbered f) where
   one_place : (s t : ℕ) (x : Pmac) → Stands (f.view s) x → Stands (f.view t) x → s ≡ t
   one_place s t x here there =
       let zero = placed.pods s x.pod here.pod in
       let other = placed.pods t x.pod there.pod in
-      let same = one_zero s t x.pod zero.0 other.0 zero.1 other.1 in
+      let same = one_zero f placed numbered s t x.pod zero.0 other.0 zero.1 other.1 in
       let pods : zero.1.pod ≡ other.1.pod = one_pod (label_of f.plan.k zero.0) (label_of f.plan.k other.0) zero.1.pod zero.1.i other.1.pod other.1.i (ap (label_of f.plan.k) same) zero.1.edge other.1.edge in
       let edge = edge_of (label_of f.plan.k s) zero.1.pod ((placed.own s).level 0 here.level) zero.1.of_pod in
       let edge_too = edge_of (label_of f.plan.k t) zero.1.pod ((placed.own t).level 0 there.level) (subst (λ p. pod_of (label_of f.plan.k t) ≡ Some p) (sym pods) other.1.of_pod) in
@@ -77,15 +67,15 @@ module _ (f : ControlPlane) (is : IsPlan f.plan) (placed : ArePlaced f.plan f) (
       one_pod : (a b : Label) (pod i other j : ℕ) → a ≡ b → a ≡ Edge pod i → b ≡ Edge other j → pod ≡ other
       one_pod a b pod i other j same one another = cc (same, one, another)
 
-pub grounded : (w : WorldView) → IsCounted w → ArePlaced w.plan (control_plane w) → AreVoting (control_plane w) → ArePodsGiven (control_plane w) → IsGrounded w
-grounded w counted placed voting given =
+pub grounded : (w : WorldView) → IsCounted w → ArePlaced w.plan (control_plane w) → AreVoting (control_plane w) → AreNumbered (control_plane w) → IsGrounded w
+grounded w counted placed voting numbered =
     let is = counted.formed.plan in
     let f = control_plane w in
     record {
       apart = λ s t v u x found also local local_too.
           let here : f.view s ≡ v = get_or_from_slice_get w.switches s v no_switch found in
           let there : f.view t ≡ u = get_or_from_slice_get w.switches t u no_switch also in
-          one_place f is placed (fixed_are_apart f.plan f.view f.says is voting) given s t x
+          one_place f is placed (fixed_are_apart f.plan f.view f.says is voting) numbered s t x
           (stands (f.view s) x (subst (λ (y : SwitchView). is_local y x ≡ true) (sym here) local))
           (stands (f.view t) x (subst (λ (y : SwitchView). is_local y x ≡ true) (sym there) local_too));
       neighbours = λ s port t q id frame v adjacent waits found.

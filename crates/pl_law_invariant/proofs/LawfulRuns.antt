@@ -43,8 +43,5 @@ module _ (switch : SwitchRule) (host : HostRule) where
   pub step_first : (old : WorldView) (event : Event) (new : WorldView) → IsFirst old.manager → WorldStep switch manager_rule host old event new → IsFirst new.manager
   step_first old event new first step = step_holds switch switch manager_rule manager_rule host as_loose IsFirst first_stays old event new first step
 
-  pub rule_first : (old : WorldView) (moments : List Moment) (new : WorldView) → IsFirst old.manager → WorldRun switch manager_rule host old moments new → IsFirst new.manager
-  rule_first old moments new first run = run_holds switch switch manager_rule manager_rule host as_loose IsFirst first_stays old moments new first run
-
 pub first_at_first : (plan : Plan) (limits : Limits) → IsFirst (booted plan limits).manager
 first_at_first plan limits = (refl, refl)

@@ -1,4 +1,4 @@
-ghost use Rattle.std.specs.Prelude.{◌≡◌, None};
+ghost use Rattle.std.specs.Prelude.{◌≡◌, ◌<◌, ℕ, None, Some};
 ghost use Rattle.pl_manager_rule.specs.ManagerRule.{manager_rule};
 ghost use Rattle.pl_switch_rule.specs.SwitchRule.{Loose};
 ghost use Rattle.pl_world.specs.declared.event.Event.{Event};
@@ -7,8 +7,8 @@ ghost use Rattle.pl_world.specs.Runs.{InEveryRun};
 ghost use Rattle.pl_world.specs.WorldRule.{WorldStep};
 ghost use Rattle.pl_world.specs.Worlds.{WorldView};
 ghost use Rattle.pl_law_control_plane.specs.ControlPlanes.{control_plane};
+ghost use Rattle.pl_law_places.specs.Known.{IsZeroOf};
 ghost use Rattle.pl_law_votes.specs.Voting.{FixedAreApart, FixedAreHeld};
-ghost use Rattle.pl_law_pods.specs.Pods.{KnownAreGiven};
 ghost use Rattle.pl_law_invariant.specs.ControlInvariant.{ControlInvariant};
 
 use pl_node::HostLogic;
@@ -31,8 +31,9 @@ pub fn edge_switches_of_a_pod_differ_in_every_run<H: HostLogic>()
     ensures { InEveryRun Loose manager_rule H.rule (λ new. FixedAreHeld new.plan (control_plane new).view × FixedAreApart new.plan (control_plane new).view) }
 {}
 
-/// In every run a known pod is the number that the manager gave to the edge switch with position 0 of that
-/// pod.
-pub fn known_pods_were_given_in_every_run<H: HostLogic>()
-    ensures { InEveryRun Loose manager_rule H.rule (λ new. KnownAreGiven (control_plane new)) }
+/// In every run a known pod is the one that the edge switch with position 0 of that pod knows, and is below how many
+/// pods there are.
+pub fn known_pods_are_those_of_edge_switches_with_position_0_in_every_run<H: HostLogic>()
+    ensures { InEveryRun Loose manager_rule H.rule (λ new. (s n : ℕ) → ((control_plane new).view s).place.pod ≡ Some n →
+        (z : ℕ) × IsZeroOf new.plan.k (control_plane new).view s n z × (n < new.plan.k)) }
 {}

@@ -19,7 +19,7 @@ pub use execution_laws::{
 };
 pub use kept_laws::{
     each_step_keeps_all_of_it, edge_switches_of_a_pod_differ_in_every_run,
-    every_run_keeps_all_of_it, known_pods_were_given_in_every_run,
+    every_run_keeps_all_of_it, known_pods_are_those_of_edge_switches_with_position_0_in_every_run,
 };
 pub use lawful_laws::{
     each_run_of_lawful_logic_is_a_run_of_the_rules,

@@ -15,11 +15,12 @@ use Rattle.pl_law_addresses.specs.Registries.{registry_of}
 use Rattle.pl_law_addresses.proofs.Exports.{registered_is_granted, standing_leads}
 use Rattle.pl_law_invariant.specs.ControlInvariant.{ControlInvariant}
 use Rattle.pl_law_ledger.specs.Leading.{AreLed}
+use Rattle.pl_law_ledger.specs.Ledgers.{IsLedger}
 use Rattle.pl_law_ledger.proofs.AddressTables.{Says, same_says}
-use Rattle.pl_law_ledger.proofs.LedgerInRuns.{IsEnteredAll, in_bounds}
+use Rattle.pl_law_ledger.proofs.LedgerInRuns.{in_bounds}
 use Rattle.pl_law_ledger.proofs.StepsKeepLedger.{fits_there}
 
-module _ (w : WorldView) (kept : ControlInvariant w) (entered : IsEnteredAll w) where
+module _ (w : WorldView) (kept : ControlInvariant w) (entered : IsLedger w) where
   -- an address is a host's, by the journal
   record IsSomebodys (x : Pmac) (mac : Mac) : Type 0 where
     host : ℕ
@@ -30,20 +31,20 @@ module _ (w : WorldView) (kept : ControlInvariant w) (entered : IsEnteredAll w) 
 
   somebodys : (s : ℕ) (v : SwitchView) → slice_get w.switches s ≡ Some v → (x : Pmac) (mac : Mac) → IsHeldFor (λ y. granted v y) x mac → IsSomebodys x mac
   somebodys s v found x mac is =
-      let e = entered.ledger.grants s v x is.grant found is.found in
+      let e = entered.grants s v x is.grant found is.found in
       record {
         host = e.host;
         of_mac = ap (host_of w.plan) (sym is.to) ∙ e.of_mac;
         held = ap (λ (f : Says). f.hold (pmac_number x)) (sym (same_says w.plan (reverse w.journal))) ∙ e.held;
         live = ap (λ (f : Says). f.live (pmac_number x)) (sym (same_says w.plan (reverse w.journal))) ∙ e.live ∙ is.held;
-        fits = fits_there w.switches kept.counted.shaped (in_bounds w kept entered.asking) entered.ledger.few s v x is.grant found is.found;
+        fits = fits_there w.switches kept.counted.shaped (in_bounds w kept) entered.few s v x is.grant found is.found;
       }
 
   numbered_as : (x : Pmac) (reg : Registration) → PmacFits x → (registry_of w.manager.learnt).at x ≡ Some reg →
       number (reverse w.journal) (pmac_number x) ≡ Some reg.number
   numbered_as x reg fits is =
       ap (λ (f : Says). f.numbers (pmac_number x)) (sym (same_says w.plan (reverse w.journal)))
-      ∙ entered.ledger.numbers x reg.number fits (ap (option_map (λ (r : Registration). r.number)) is)
+      ∙ entered.numbers x reg.number fits (ap (option_map (λ (r : Registration). r.number)) is)
 
   pub are_led : AreLed w
   are_led s v old new trap found standing =

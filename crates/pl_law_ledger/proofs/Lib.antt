@@ -12,7 +12,6 @@ pub mod Numbering
 pub mod TurnsKeepLedger
 pub mod EventsKeepLedger
 pub mod LedgerAtFirst
-pub mod Asking
 pub mod LedgerInRuns
 pub mod Leading
 pub mod Exports

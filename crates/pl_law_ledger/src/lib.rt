@@ -10,7 +10,6 @@ pub use ledger_laws::{
 };
 pub use run_laws::{
     each_number_given_is_below_the_number_of_pods, each_trap_leads_to_a_newer_address_in_every_run,
-    only_edge_switches_with_position_0_ask_in_every_run,
     pods_and_positions_are_of_one_byte_in_every_run,
     the_journal_says_what_was_granted_in_every_run, what_is_known_of_places_is_known_later,
 };

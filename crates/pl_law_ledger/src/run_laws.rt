@@ -11,7 +11,6 @@ ghost use Rattle.pl_law_control_plane.specs.ControlPlanes.{control_plane};
 ghost use Rattle.pl_law_places.specs.Told.{IsTrueOf};
 ghost use Rattle.pl_law_invariant.specs.ControlInvariant.{ControlInvariant};
 ghost use Rattle.pl_law_ledger.specs.Ledgers.{AreInBounds, IsLedger};
-ghost use Rattle.pl_law_ledger.specs.Askers.{ZerosAsk};
 ghost use Rattle.pl_law_ledger.specs.Leading.{AreLed};
 
 use pl_node::HostLogic;
@@ -29,12 +28,7 @@ pub fn each_trap_leads_to_a_newer_address_in_every_run<H: HostLogic>()
     ensures { InEveryRun Loose manager_rule H.rule AreLed }
 {}
 
-/// In every run only edge switches with position 0 ask for the number of a pod, and only pods that switches know are told.
-pub fn only_edge_switches_with_position_0_ask_in_every_run<H: HostLogic>()
-    ensures { InEveryRun Loose manager_rule H.rule (λ new. ZerosAsk (control_plane new)) }
-{}
-
-/// So each number that is given is below how many pods there are.
+/// In every run each number of a pod that is given is below how many pods there are.
 pub fn each_number_given_is_below_the_number_of_pods<H: HostLogic>()
     ensures { InEveryRun Loose manager_rule H.rule (λ new. AllByRecursion (λ g. g.pod < new.plan.k) new.manager.pods) }
 {}

@@ -10,9 +10,6 @@ pub mod TellingOfPlacing
 pub mod Notes
 pub mod NothingTriedAtFirst
 pub mod Bounding
-pub mod Wishes
-pub mod Asking
-pub mod Firsts
 pub mod Crossing
 pub mod Receiving
 pub mod HostLevels

@@ -1,6 +1,6 @@
 -- At the beginning no position was tried.
-use Rattle.std.proofs.Common.{◌≡◌, ℕ, zero, suc, ◌*◌, ◌<◌, [], map, replicate, get_or, Some, None, refl, sym, ap, ◌∙◌, true≢false, subst, arith}
-use Rattle.std.specs.List.{AllByRecursion, list_any}
+use Rattle.std.proofs.Common.{◌≡◌, ℕ, zero, suc, ◌*◌, ◌<◌, [], map, replicate, get_or, Some, None, refl, sym, ap, subst, arith}
+use Rattle.std.specs.List.{AllByRecursion}
 use Rattle.pl_lemmas.proofs.Exports.{replicated}
 use Rattle.pl_frame.specs.declared.address.SwitchId.{SwitchId}
 use Rattle.pl_wiring.specs.Labels.{switch_count}
@@ -9,12 +9,11 @@ use Rattle.pl_node.specs.declared.switch_records.Hold.{Hold}
 use Rattle.pl_node.specs.SwitchFacts.{hold_at, switch_at_boot}
 use Rattle.pl_world.specs.declared.limits.Limits.{Limits}
 use Rattle.pl_world.specs.Booting.{booted}
-use Rattle.pl_law_control_plane.specs.ControlPlanes.{control_plane, no_switch, said}
+use Rattle.pl_law_control_plane.specs.ControlPlanes.{control_plane, no_switch}
 use Rattle.pl_law_control_plane.proofs.Exports.{booted_view, nothing_said}
 use Rattle.pl_law_votes.specs.Voting.{aggregation_no, edge_no}
 use Rattle.pl_node.specs.PortRecords.{heard_place, new_port, place_at}
 use Rattle.pl_node.proofs.Exports.{unheld}
-use Rattle.pl_law_placing.specs.Asking.{HaveAsked, OnlyFirstAsk, is_wish}
 use Rattle.pl_law_placing.specs.Bounding.{IsBounded}
 use Rattle.pl_law_placing.specs.Noting.{AreNoted}
 use Rattle.pl_law_placing.specs.Receiving.{HaveCrossed, ItemHasCrossed}
@@ -49,16 +48,6 @@ noted_at_first plan limits pod i j p q edge aggregation adjacent = record {
 pub bounded_at_first : (plan : Plan) (limits : Limits) (s : ℕ) → IsBounded (booted plan limits).steps ((control_plane (booted plan limits)).view s)
 bounded_at_first plan limits s =
     booted_view (IsBounded 0) (λ id k. record { few = λ level. absurd (cc level); at_first = λ never. refl }) plan.k plan.ids s
-
-pub asked_at_first : (plan : Plan) (limits : Limits) → HaveAsked (control_plane (booted plan limits))
-asked_at_first plan limits s position none =
-    let nowhere = booted_view (λ v. v.place.position ≡ None) (λ id k. refl) plan.k plan.ids s in absurd (cc (nowhere, position))
-
-pub first_at_first : (plan : Plan) (limits : Limits) → OnlyFirstAsk (control_plane (booted plan limits))
-first_at_first plan limits = record {
-  waiting = λ s waits. absurd (true≢false (sym waits ∙ ap (list_any is_wish) (replicated (switch_count plan.k) s [])));
-  heard = tt;
-}
 
 pub crossed_at_first : (plan : Plan) → HaveCrossed [] (replicate (switch_count plan.k * plan.k) []) 0
 crossed_at_first plan = record { items = empty (switch_count plan.k * plan.k); unsent = λ id more. refl }

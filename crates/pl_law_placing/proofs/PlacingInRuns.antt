@@ -16,20 +16,18 @@ use Rattle.pl_world.specs.Changes.{noted}
 use Rattle.pl_world.specs.WorldRule.{WorldStep}
 use Rattle.pl_world.specs.Worlds.{WorldView}
 use Rattle.pl_law_control_plane.specs.ControlPlanes.{control_plane}
-use Rattle.pl_law_control_plane.proofs.Exports.{plan_stays, whole_step}
+use Rattle.pl_law_control_plane.proofs.Exports.{plan_stays, step_in_plane}
 use Rattle.pl_law_votes.proofs.Exports.{fixed_are_apart}
-use Rattle.pl_law_pods.proofs.Exports.{numbers_fit}
+use Rattle.pl_law_pods.proofs.Exports.{numbers_told}
 use Rattle.pl_law_invariant.specs.ControlInvariant.{ControlInvariant}
 use Rattle.pl_law_invariant.proofs.Exports.{can_tell, holds_in_run, kept_at_first}
 use Rattle.pl_law_placing.specs.Bounding.{IsBounded}
 use Rattle.pl_law_placing.specs.Noting.{AreNotedBy}
 use Rattle.pl_law_placing.specs.Placing.{ArePlacing}
 use Rattle.pl_law_placing.specs.Trying.{AreTryingBy}
-use Rattle.pl_law_placing.proofs.Asking.{step_asked}
 use Rattle.pl_law_placing.proofs.Bounding.{seen_bounded}
 use Rattle.pl_world.proofs.Exports.{one_more_step}
-use Rattle.pl_law_placing.proofs.NothingTriedAtFirst.{asked_at_first, bounded_at_first, crossed_at_first, first_at_first, noted_at_first, trying_at_first}
-use Rattle.pl_law_placing.proofs.Firsts.{step_first}
+use Rattle.pl_law_placing.proofs.NothingTriedAtFirst.{bounded_at_first, crossed_at_first, noted_at_first, trying_at_first}
 use Rattle.pl_law_placing.proofs.KeepingPlacing.{seen_trying}
 use Rattle.pl_law_placing.proofs.Levels.{seen_later, step_levels}
 use Rattle.pl_law_placing.proofs.Notes.{seen_noted}
@@ -41,8 +39,6 @@ placing_at_first plan limits = record {
   trying = trying_at_first plan limits;
   noted = noted_at_first plan limits;
   bounded = bounded_at_first plan limits;
-  asked = asked_at_first plan limits;
-  first = first_at_first plan limits;
   crossed = crossed_at_first plan;
   levels = λ s h. absurd (true≢false (sym h));
 }
@@ -53,10 +49,9 @@ module _ (host : HostRule) (sends : HostsSendData host) where
   step_places old event new before placing none step =
       let f = control_plane old in let g = control_plane new in
       let is = before.counted.formed.plan in
-      let whole = whole_step Loose manager_rule host loose_steps_are_accounted old event new before.counted before.hosts none step in
-      let taken = whole.0 in
+      let taken = step_in_plane Loose manager_rule host loose_steps_are_accounted old event new before.counted before.hosts none step in
       let same = plan_stays Loose manager_rule f g taken in
-      let seen = step_seen manager_rule f g is before.placed (fixed_are_apart f.plan f.view f.says is before.voting) (numbers_fit f is before.given) taken in
+      let seen = step_seen manager_rule f g is before.placed (fixed_are_apart f.plan f.view f.says is before.voting) (numbers_told f is before.gathered before.numbered) taken in
       let later = seen_later f g seen in
       let levels = step_levels old before new host event placing.crossed placing.levels later step in
       record {
@@ -66,8 +61,6 @@ module _ (host : HostRule) (sends : HostsSendData host) where
             (seen_noted f g is before.placed (can_tell old before.counted before.placed) before.voting placing.noted seen);
         bounded = λ s. subst (λ n. IsBounded n (g.view s)) (sym (one_more_step Loose manager_rule host old event new step))
             (seen_bounded old.steps f g placing.bounded seen s);
-        asked = step_asked f is g before.placed (numbers_fit f is before.given) later placing.asked taken whole.1;
-        first = step_first f g same later placing.first taken whole.1;
         crossed = levels.0;
         levels = levels.1;
       }
@@ -80,8 +73,6 @@ module _ (host : HostRule) (sends : HostsSendData host) where
           trying = placing.trying;
           noted = placing.noted;
           bounded = placing.bounded;
-          asked = placing.asked;
-          first = record { waiting = placing.first.waiting; heard = placing.first.heard };
           crossed = goes.crossed;
           levels = λ s h. elim (goes.received s h) [ inl before ↦ placing.levels s before | inr never ↦ absurd never ];
         }

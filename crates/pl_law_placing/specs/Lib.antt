@@ -3,5 +3,4 @@ pub mod Placing
 pub mod Noting
 pub mod Resting
 pub mod Bounding
-pub mod Asking
 pub mod Receiving

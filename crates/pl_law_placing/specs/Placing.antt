@@ -2,7 +2,6 @@
 use Rattle.std.specs.Prelude.{ℕ, reverse}
 use Rattle.pl_law_control_plane.specs.ControlPlanes.{control_plane}
 use Rattle.pl_world.specs.Worlds.{WorldView}
-use Rattle.pl_law_placing.specs.Asking.{HaveAsked, OnlyFirstAsk}
 use Rattle.pl_law_placing.specs.Bounding.{IsBounded}
 use Rattle.pl_law_placing.specs.Noting.{AreNoted}
 use Rattle.pl_law_placing.specs.Receiving.{HaveCrossed, HaveLevels}
@@ -15,9 +14,6 @@ pub record ArePlacing (w : WorldView) : Type 0 where
   pub noted : AreNoted (control_plane w)
   -- there are no more attempts than steps
   pub bounded : (s : ℕ) → IsBounded w.steps ((control_plane w).view s)
-  -- edge switches with position 0 ask for their pods, and no others
-  pub asked : HaveAsked (control_plane w)
-  pub first : OnlyFirstAsk (control_plane w)
   -- what waits behind ports crossed a switch, and switches that received a frame of a host have level 0
   pub crossed : HaveCrossed (reverse w.journal) w.out w.begun
   pub levels : HaveLevels w

@@ -29,11 +29,11 @@ abbrev pub IsDue : List PodGiven → ManagerAct → Type 0
 IsDue pods (Say to says) = IsPodGiven pods to says
 IsDue pods (Number pmac n) = Unit {0}
 
-all_mapped : {X Y : Type 0} (P : Y → Type 0) (f : X → Y) (xs : List X) → ((x : X) → P (f x)) → AllByRecursion P (map f xs)
+pub all_mapped : {X Y : Type 0} (P : Y → Type 0) (f : X → Y) (xs : List X) → ((x : X) → P (f x)) → AllByRecursion P (map f xs)
 all_mapped P f [] each = tt
 all_mapped P f (x ∷ xs) each = (each x, all_mapped P f xs each)
 
-all_flat : {X Y : Type 0} (P : Y → Type 0) (f : X → List Y) (xs : List X) → ((x : X) → AllByRecursion P (f x)) → AllByRecursion P (flat_map f xs)
+pub all_flat : {X Y : Type 0} (P : Y → Type 0) (f : X → List Y) (xs : List X) → ((x : X) → AllByRecursion P (f x)) → AllByRecursion P (flat_map f xs)
 all_flat P f [] each = tt
 all_flat P f (x ∷ xs) each = all_append P (f x) (flat_map f xs) (each x) (all_flat P f xs each)
 
@@ -111,7 +111,7 @@ order_then before s t told (say.Tree group part) is = tt
 
 -- The switch to which an act speaks.
 
-to_is : (plan : Plan) (to : SwitchId) (t : ℕ) → is_to (position (same_switch to) plan.ids) t ≡ true → to ≡ id_of plan t
+pub to_is : (plan : Plan) (to : SwitchId) (t : ℕ) → is_to (position (same_switch to) plan.ids) t ≡ true → to ≡ id_of plan t
 to_is plan to t is = by (position (same_switch to) plan.ids) refl is
   where
     by : (found : Option ℕ) → position (same_switch to) plan.ids ≡ found → is_to found t ≡ true → to ≡ id_of plan t

@@ -4,7 +4,7 @@ use Rattle.pl_pmac.specs.declared.pmac.Pmac.{Pmac}
 use Rattle.pl_node.specs.declared.switch_records.Grant.{Grant}
 use Rattle.pl_node.specs.SwitchViews.{SwitchView}
 use Rattle.pl_steps.specs.Steps.{does, ◌▹◌}
-use Rattle.pl_switch_rule.specs.Delivering.{addresses, makes}
+use Rattle.pl_switch_rule.specs.Delivering.{makes}
 use Rattle.pl_switch_rule.specs.Aging.{ages, with_older}
 use Rattle.pl_switch_rule.specs.Forwarding.{Choice}
 use Rattle.pl_switch_rule.specs.Intake.{has_member_of}

@@ -1,14 +1,18 @@
 -- The last that words say, through what a step does to queues.
-use Rattle.std.proofs.Common.{◌≡◌, ℕ, List, [], ◌∷◌, ◌++◌, Option, None, unwrap_or, refl, sym, ap, ◌∙◌}
-use Rattle.std.specs.List.{AllByRecursion}
+use Rattle.std.proofs.Common.{◌≡◌, ℕ, List, [], ◌∷◌, ◌++◌, false, Option, Some, None, slice_get, unwrap_or, refl, sym, ap, subst, ◌∙◌}
+use Rattle.std.specs.List.{AllByRecursion, list_any}
 use Rattle.pl_lemmas.proofs.Exports.{all_weaker}
 use Rattle.pl_frame.specs.declared.address.SwitchId.{SwitchId}
+use Rattle.pl_wiring.specs.Plan.{IsPlan}
 use Rattle.pl_node.specs.declared.messages.ToManager.{ToManager}
 use Rattle.pl_node.specs.declared.messages.ToManager.TheVariants as tell
 use Rattle.pl_node.specs.declared.messages.ToSwitch.{ToSwitch}
 use Rattle.pl_node.specs.declared.messages.ToSwitch.TheVariants as say
 use Rattle.pl_manager_rule.specs.Histories.{link_said, members_said, place_said}
 use Rattle.pl_law_control_plane.specs.ControlPlanes.{ControlPlane}
+use Rattle.pl_law_due.specs.Due.{due_plane, is_hello, is_silent, words_of}
+use Rattle.pl_law_due.specs.Gathering.{GathersWell}
+use Rattle.pl_law_due.proofs.Exports.{rest_whole, whole_due}
 use Rattle.pl_law_records.specs.Records.{AreCurrent, HaveOrders, HaveReported, NoReportWaits}
 use Rattle.pl_law_records.specs.Words.{IsNoOrder, IsNoReport, avoid_said, last_said, part_said}
 
@@ -93,14 +97,53 @@ silent_avoid ws all = all_weaker IsNoOrder (λ w. avoid_said w ≡ None) no_avoi
 pub silent_part : (group : ℕ) (ws : List ToSwitch) → AllByRecursion IsNoOrder ws → AllByRecursion (λ w. part_said group w ≡ None) ws
 silent_part group ws all = all_weaker IsNoOrder (λ w. part_said group w ≡ None) (no_part group) ws all
 
--- where nothing waits, what stands before is what was said last
-pub current_at_rest : (f : ControlPlane) → HaveReported f → HaveOrders f → NoReportWaits f → AreCurrent f
-current_at_rest f reported ordered rest s id named =
-    let told = reported s id named in let has = ordered s id named in
+-- words that say nothing of records are none of a report
+quiet_words : (queue : List ToManager) → AllByRecursion IsNoReport queue → AllByRecursion IsNoReport (words_of queue)
+quiet_words [] all = tt
+quiet_words (tell.Begin n ∷ queue) all = quiet_words queue all.1
+quiet_words (tell.End n ∷ queue) all = quiet_words queue all.1
+quiet_words (tell.Place place ∷ queue) all = absurd all.0
+quiet_words (tell.Link u usable ∷ queue) all = absurd all.0
+quiet_words (tell.PodWanted ∷ queue) all = (tt, quiet_words queue all.1)
+quiet_words (tell.Learned a b c ∷ queue) all = (tt, quiet_words queue all.1)
+quiet_words (tell.Aged a b ∷ queue) all = (tt, quiet_words queue all.1)
+quiet_words (tell.Trapped a b c ∷ queue) all = (tt, quiet_words queue all.1)
+quiet_words (tell.Query a b c ∷ queue) all = (tt, quiet_words queue all.1)
+quiet_words (tell.Members group any ∷ queue) all = absurd all.0
+
+no_hello : (orders : List ToSwitch) → AllByRecursion IsNoOrder orders → list_any is_hello orders ≡ false
+no_hello [] all = refl
+no_hello (say.Hello epoch ∷ orders) all = absurd all.0
+no_hello (say.Avoid list ∷ orders) all = absurd all.0
+no_hello (say.Tree group part ∷ orders) all = absurd all.0
+no_hello (say.Pod n ∷ orders) all = no_hello orders all.1
+no_hello (say.Answer a b c d ∷ orders) all = no_hello orders all.1
+no_hello (say.Flood a b c ∷ orders) all = no_hello orders all.1
+no_hello (say.Invalidate a b c d ∷ orders) all = no_hello orders all.1
+no_hello (say.Release a ∷ orders) all = no_hello orders all.1
+
+-- so nothing on records is due either, and no switch is silent
+pub record DueRests (f : ControlPlane) (s : ℕ) : Type 0 where
+  pub loud : is_silent f.orders s ≡ false
+  pub reports : AllByRecursion IsNoReport ((due_plane f).reports s)
+
+pub due_rests : (f : ControlPlane) → IsPlan f.plan → GathersWell f → NoReportWaits f → (s : ℕ) (id : SwitchId) → slice_get f.plan.ids s ≡ Some id → DueRests f s
+due_rests f is well rest s id named =
+    let whole = rest_whole f is well rest.ends (λ t i at. no_hello (f.orders t) (rest.orders t)) in
     record {
-      place = sym (last_silent place_said _ (f.reports s) (silent_place (f.reports s) (rest.reports s))) ∙ told.place;
-      members = λ group.
-          sym (last_silent (members_said group) _ (f.reports s) (silent_members group (f.reports s) (rest.reports s))) ∙ told.members group;
+      loud = no_hello (f.orders s) (rest.orders s);
+      reports = subst (AllByRecursion IsNoReport) (sym (whole_due f whole s id named)) (quiet_words (f.reports s) (rest.reports s));
+    }
+
+-- where nothing waits, what stands before is what was said last
+pub current_at_rest : (f : ControlPlane) → IsPlan f.plan → GathersWell f → HaveReported (due_plane f) → HaveOrders f → NoReportWaits f → AreCurrent f
+current_at_rest f is well reported ordered rest s id named =
+    let due = due_rests f is well rest s id named in
+    let told = reported s id named due.loud in let has = ordered s id named in
+    let words = (due_plane f).reports s in
+    record {
+      place = sym (last_silent place_said _ words (silent_place words due.reports)) ∙ told.place;
+      members = λ group. sym (last_silent (members_said group) _ words (silent_members group words due.reports)) ∙ told.members group;
       avoid = sym (last_silent avoid_said _ (f.orders s) (silent_avoid (f.orders s) (rest.orders s))) ∙ has.avoid;
       parts = λ group. sym (last_silent (part_said group) _ (f.orders s) (silent_part group (f.orders s) (rest.orders s))) ∙ has.parts group;
     }

@@ -6,10 +6,13 @@ pub mod Reports
 pub mod Intaking
 pub mod ToldInTurns
 pub mod Recording
+pub mod SaysLast
+pub mod Greeting
 pub mod Reporting
 pub mod SaidToOneSwitch
 pub mod ListsOfRecords
 pub mod Ordering
+pub mod DueOrders
 pub mod RecordsInRuns
 pub mod Pairing
 pub mod Strangers

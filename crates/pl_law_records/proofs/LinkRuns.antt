@@ -23,11 +23,14 @@ use Rattle.pl_world.specs.Worlds.{WorldView}
 use Rattle.pl_law_control_plane.specs.ControlPlanes.{AreAdjacent, ControlPlane, control_plane}
 use Rattle.pl_law_control_plane.specs.PlaneSteps.{LosesNoWord, PlaneStep}
 use Rattle.pl_law_control_plane.proofs.Exports.{adjacent_there, adjacent_turned, whole_step}
+use Rattle.pl_law_due.specs.Due.{due_plane}
+use Rattle.pl_law_due.specs.DueSteps.{DueStep}
+use Rattle.pl_law_due.specs.Gathering.{AreUnheard}
 use Rattle.pl_law_invariant.specs.ControlInvariant.{ControlInvariant}
-use Rattle.pl_law_invariant.proofs.Exports.{holds_in_run, kept_at_first}
+use Rattle.pl_law_invariant.proofs.Exports.{holds_in_run, kept_at_first, world_due, world_unheard}
 use Rattle.pl_law_records.specs.Records.{HaveToldLinks, HaveToldNeighbours, NamesNeighbours}
-use Rattle.pl_law_records.proofs.Pairing.{links_at_first, plane_links}
-use Rattle.pl_law_records.proofs.Strangers.{neighbours_at_first, plane_neighbours}
+use Rattle.pl_law_records.proofs.Pairing.{due_links, links_at_first}
+use Rattle.pl_law_records.proofs.Strangers.{due_neighbours, neighbours_at_first}
 
 -- where places are true, switches name their neighbours as the wiring has them
 pub names_neighbours : (w : WorldView) → ControlInvariant w → NamesNeighbours (control_plane w)
@@ -70,10 +73,23 @@ module _ (host : HostRule) (sends : HostsSendData host) (owns : HostsSendOwn hos
     run_holds plan limits moments new can first run =
         holds_in_run host sends owns (λ w. Holds (control_plane w)) told_step (λ w entry is told. told) (booted plan limits) moments new (kept_at_first plan limits can) first run
 
+  -- and what each step to what is due keeps
+  module _ (Holds : ControlPlane → Type 0) (keeps : (f g : ControlPlane) → IsPlan f.plan → IsPlan g.plan → NamesNeighbours g → AreUnheard f → Holds f → DueStep Loose f g → Holds g) where
+    due_step : (old : WorldView) (event : Event) (new : WorldView) → ControlInvariant old → ControlInvariant new → Holds (due_plane (control_plane old)) → refusal old event ≡ None →
+        WorldStep Loose manager_rule host old event new → Holds (due_plane (control_plane new))
+    due_step old event new kept after told none step =
+        keeps (due_plane (control_plane old)) (due_plane (control_plane new)) kept.counted.formed.plan after.counted.formed.plan (names_neighbours new after) (world_unheard old kept) told
+        (world_due host old event new kept none step)
+
+    pub run_due : (plan : Plan) (limits : Limits) (moments : List Moment) (new : WorldView) → CanBegin plan → Holds (due_plane (control_plane (booted plan limits))) →
+        WorldRun Loose manager_rule host (booted plan limits) moments new → Holds (due_plane (control_plane new))
+    run_due plan limits moments new can first run =
+        holds_in_run host sends owns (λ w. Holds (due_plane (control_plane w))) due_step (λ w entry is told. told) (booted plan limits) moments new (kept_at_first plan limits can) first run
+
   pub run_links : (plan : Plan) (limits : Limits) (moments : List Moment) (new : WorldView) → CanBegin plan →
-      WorldRun Loose manager_rule host (booted plan limits) moments new → HaveToldLinks (control_plane new)
-  run_links plan limits moments new can run = run_holds HaveToldLinks plane_links plan limits moments new can (links_at_first plan limits) run
+      WorldRun Loose manager_rule host (booted plan limits) moments new → HaveToldLinks (due_plane (control_plane new))
+  run_links plan limits moments new can run = run_due HaveToldLinks due_links plan limits moments new can (links_at_first plan limits) run
 
   pub run_neighbours : (plan : Plan) (limits : Limits) (moments : List Moment) (new : WorldView) → CanBegin plan →
-      WorldRun Loose manager_rule host (booted plan limits) moments new → HaveToldNeighbours (control_plane new)
-  run_neighbours plan limits moments new can run = run_holds HaveToldNeighbours plane_neighbours plan limits moments new can (neighbours_at_first plan limits) run
+      WorldRun Loose manager_rule host (booted plan limits) moments new → HaveToldNeighbours (due_plane (control_plane new))
+  run_neighbours plan limits moments new can run = run_due HaveToldNeighbours due_neighbours plan limits moments new can (neighbours_at_first plan limits) run

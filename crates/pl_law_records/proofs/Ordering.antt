@@ -16,6 +16,7 @@ use Rattle.pl_node.specs.declared.messages.ToSwitch.{ToSwitch}
 use Rattle.pl_node.specs.declared.messages.ToSwitch.TheVariants as say
 use Rattle.pl_node.specs.declared.messages.TreePart.{TreePart}
 use Rattle.pl_node.specs.AvoidLists.{avoid_list}
+use Rattle.pl_node.specs.ManagerDuties.{ManagerRule}
 use Rattle.pl_node.specs.ManagerViews.{ManagerView, value_at}
 use Rattle.pl_node.specs.SwitchFacts.{part_of}
 use Rattle.pl_node.specs.SwitchInputs.{SwitchInput}
@@ -248,7 +249,7 @@ module _ (before : ManagerView) (s : SwitchId) (told : ToManager) (id : SwitchId
       ∙ parts_of_avoids before new id stay group group_stays x)
       ∙ trees_sent before new id stay group group_stays
 
-ordered_manager : (f m g : ControlPlane) (s : ℕ) (id : SwitchId) (told : ToManager) → IsPlan f.plan → IsReportTaken f s told m → ManagerTurns manager_rule m id told g →
+pub ordered_manager : (f m g : ControlPlane) (s : ℕ) (id : SwitchId) (told : ToManager) → IsPlan f.plan → IsReportTaken f s told m → ManagerTurns manager_rule m id told g →
     HaveOrders f → HaveOrders g
 unfolding manager_hears
 ordered_manager f m g s id told is taken turns has t id_t named_t =
@@ -274,12 +275,14 @@ ordered_manager f m g s id told is taken turns has t id_t named_t =
       rising = subst (λ v. IsStrictlySortedBy nat_cmp (keys_of v.parts)) (sym view) was.rising;
     }
 
--- a step of the control plane
-pub plane_ordered : (f g : ControlPlane) → IsPlan f.plan → HaveOrders f → (step : PlaneStep Loose manager_rule f g) → LosesNoWord Loose manager_rule f g step → HaveOrders g
-plane_ordered f g is has (Left left) kept =
+-- a step of the control plane, whatever rule the manager has, where its turns keep it
+pub plane_ordered_by : (rule : ManagerRule) (f g : ControlPlane) → HaveOrders f →
+    ((mid : ControlPlane) (s : ℕ) (id : SwitchId) (word : ToManager) → IsReportTaken f s word mid → ManagerTurns rule mid id word g → HaveOrders g) →
+    (step : PlaneStep Loose rule f g) → LosesNoWord Loose rule f g step → HaveOrders g
+plane_ordered_by rule f g has managed (Left left) kept =
     like_everywhere f g left.plan (λ s. record { avoid = ap (λ v. v.avoid) (left.view s); parts = ap (λ v. v.parts) (left.view s); orders = kept.orders s; manager = left.manager }) has
-plane_ordered f g is has (Ticked s turns) kept = ordered_turn f g s Tick (λ list. refl) (λ parts. refl) turns has
-plane_ordered f g is has (Heard t q s port frame mid adjacent control taken turns) kept =
+plane_ordered_by rule f g has managed (Ticked s turns) kept = ordered_turn f g s Tick (λ list. refl) (λ parts. refl) turns has
+plane_ordered_by rule f g has managed (Heard t q s port frame mid adjacent control taken turns) kept =
     ordered_turn mid g s (Comes port frame) (λ list. refl) (λ parts. refl) turns
     (like_everywhere f mid taken.left.plan (λ x. record {
       avoid = ap (λ v. v.avoid) (taken.left.view x);
@@ -287,7 +290,7 @@ plane_ordered f g is has (Heard t q s port frame mid adjacent control taken turn
       orders = taken.orders x;
       manager = taken.left.manager;
     }) has)
-plane_ordered f g is has (Carried t q s port frame mid adjacent control carries taken turns) kept =
+plane_ordered_by rule f g has managed (Carried t q s port frame mid adjacent control carries taken turns) kept =
     ordered_turn mid g s (Comes port frame) (λ list. refl) (λ parts. refl) turns
     (like_everywhere f mid taken.left.plan (λ x. record {
       avoid = ap (λ v. v.avoid) (taken.left.view x);
@@ -295,6 +298,9 @@ plane_ordered f g is has (Carried t q s port frame mid adjacent control carries 
       orders = taken.orders x;
       manager = taken.left.manager;
     }) has)
-plane_ordered f g is has (Entered s port frame edge within free control turns) kept = ordered_turn f g s (Comes port frame) (λ list. refl) (λ parts. refl) turns has
-plane_ordered f g is has (Ordered s says mid taken turns) kept = ordered_hears f mid g s says taken turns has
-plane_ordered f g is has (Managed s id word mid there named taken turns) kept = ordered_manager f mid g s id word is taken turns has
+plane_ordered_by rule f g has managed (Entered s port frame edge within free control turns) kept = ordered_turn f g s (Comes port frame) (λ list. refl) (λ parts. refl) turns has
+plane_ordered_by rule f g has managed (Ordered s says mid taken turns) kept = ordered_hears f mid g s says taken turns has
+plane_ordered_by rule f g has managed (Managed s id word mid there named taken turns) kept = managed mid s id word taken turns
+
+pub plane_ordered : (f g : ControlPlane) → IsPlan f.plan → HaveOrders f → (step : PlaneStep Loose manager_rule f g) → LosesNoWord Loose manager_rule f g step → HaveOrders g
+plane_ordered f g is has step kept = plane_ordered_by manager_rule f g has (λ mid s id word taken turns. ordered_manager f mid g s id word is taken turns has) step kept

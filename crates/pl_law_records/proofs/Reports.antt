@@ -29,7 +29,7 @@ module _ {X : Type 0} (said : ToManager → Option X) (b : X) where
   AgreesAct (Tell word) = Agrees word
   AgreesAct act = Unit {0}
 
-  last_agrees : (words : List ToManager) → AllByRecursion Agrees words → last_said said b words ≡ b
+  pub last_agrees : (words : List ToManager) → AllByRecursion Agrees words → last_said said b words ≡ b
   last_agrees [] all = refl
   last_agrees (word ∷ words) all = by (last_agrees words all.1) (said word) refl
     where
@@ -57,23 +57,25 @@ module _ (v : SwitchView) (epoch : ℕ) where
       (record { begun = λ n x is. none v.place x is; ended = λ n x is. none v.place x is; trapped = λ old new number x is. none v.place x is }))
       (λ group had x is. none v.place x is) epoch))
 
-  pub report_says_members : (group : ℕ) →
-      last_said (members_said group) (has_member_of v.members group) (tells (hears_hello v epoch).acts) ≡ has_member_of v.members group
-  report_says_members group =
+  pub members_agree : (group : ℕ) → AllByRecursion (Agrees (members_said group) (has_member_of v.members group)) words
+  members_agree group =
       let has : Bool = has_member_of v.members group in
-      last_agrees (members_said group) has words
-      (told_all (AgreesAct (members_said group) has) (hears_hello v epoch).acts
+      told_all (AgreesAct (members_said group) has) (hears_hello v epoch).acts
       (greeted_acts (AgreesAct (members_said group) has) v
       (record { begun = λ n x is. none has x is; ended = λ n x is. none has x is; trapped = λ old new number x is. none has x is })
       (λ x is. none has x is) (links_acts (AgreesAct (members_said group) has) v (λ neighbour usable x is. none has x is)) (λ at x is. none has x is)
       (addresses_there (AgreesAct (members_said group) has) v (λ port n g is used x said. none has x said) (λ address number x is. none has x is)
       (record { begun = λ n x is. none has x is; ended = λ n x is. none has x is; trapped = λ old new number x is. none has x is }))
-      (λ g had x is. by g had x (g == group) refl is) epoch))
+      (λ g had x is. by g had x (g == group) refl is) epoch)
     where
       by : (g : ℕ) → has_member_of v.members g ≡ true → (x : Bool) (b : Bool) → (g == group) ≡ b → (if b then Some true else None) ≡ Some x →
           x ≡ has_member_of v.members group
       by g had x true same is = sym (same_Some true x is) ∙ sym had ∙ ap (λ n. has_member_of v.members n) (eqb-true g group same)
       by g had x false other is = absurd (none-some x is)
+
+  pub report_says_members : (group : ℕ) →
+      last_said (members_said group) (has_member_of v.members group) (tells (hears_hello v epoch).acts) ≡ has_member_of v.members group
+  report_says_members group = last_agrees (members_said group) (has_member_of v.members group) words (members_agree group)
 
   -- of the link to a switch: what is said is of a port at which it is heard
   module _ (u : SwitchId) (b : Bool) (each : (q : ℕ) → id_at v q ≡ Some u → is_usable v q ≡ b) where
@@ -96,16 +98,18 @@ module _ (v : SwitchView) (epoch : ℕ) where
         (flat_map (λ port. link_reported (id_at v port) (is_usable v port)) ports)
         (link_agrees q (id_at v q) refl) (links_agree ports)
 
-    report_says_link : last_said (link_said u) b (tells (hears_hello v epoch).acts) ≡ b
-    report_says_link =
-        last_agrees (link_said u) b words
-        (told_all P (hears_hello v epoch).acts
+    pub link_agree : AllByRecursion (Agrees (link_said u) b) words
+    link_agree =
+        told_all P (hears_hello v epoch).acts
         (greeted_acts P v
         (record { begun = λ n x is. none b x is; ended = λ n x is. none b x is; trapped = λ old new number x is. none b x is })
         (λ x is. none b x is) (links_agree (ports_of_switch v.k)) (λ at x is. none b x is)
         (addresses_there P v (λ port n g is used x said. none b x said) (λ address number x is. none b x is)
         (record { begun = λ n x is. none b x is; ended = λ n x is. none b x is; trapped = λ old new number x is. none b x is }))
-        (λ group had x is. none b x is) epoch))
+        (λ group had x is. none b x is) epoch)
+
+    report_says_link : last_said (link_said u) b (tells (hears_hello v epoch).acts) ≡ b
+    report_says_link = last_agrees (link_said u) b words link_agree
 
   pub report_says_links : (u : SwitchId) (p : ℕ) → IsOnlyAt v u p → last_said (link_said u) (is_usable v p) (tells (hears_hello v epoch).acts) ≡ is_usable v p
   report_says_links u p at = report_says_link u (is_usable v p) (λ q there. ap (λ n. is_usable v n) (at.only q there))

@@ -111,7 +111,7 @@ module _ {K : Type 0} (R : K → K → Ordering) where
       by rest Equal e = inl (sym (exact k y e))
       by rest Greater e = inr rest
 
-among_groups : (group : ℕ) (ms : List Member) (acc : List ℕ) → IsAmong group acc ⊎ (has_member_of ms group ≡ true) →
+pub among_groups : (group : ℕ) (ms : List Member) (acc : List ℕ) → IsAmong group acc ⊎ (has_member_of ms group ≡ true) →
     IsAmong group (fold (λ groups (m : Member). insert_key nat_cmp groups m.group) acc ms)
 among_groups group [] acc (inl h) = h
 among_groups group [] acc (inr h) = absurd (true≢false (sym h))

@@ -18,14 +18,16 @@ use Rattle.pl_node.specs.Trees.{tree_part}
 use Rattle.pl_manager_rule.specs.Histories.{link_said, members_said, place_said}
 use Rattle.pl_switch_rule.specs.Intake.{has_member_of}
 use Rattle.pl_law_control_plane.specs.ControlPlanes.{AreAdjacent, ControlPlane}
+use Rattle.pl_law_due.specs.Due.{is_silent}
+use Rattle.pl_law_due.specs.Gathering.{IsNoEnd}
 use Rattle.pl_law_records.specs.Words.{IsNoOrder, IsNoReport, avoid_said, last_said, part_said}
 
 -- whether a switch has members of a group, as the manager was told last
 abbrev pub has_told_members : Members → SwitchId → ℕ → Bool
 has_told_members members s group = unwrap_or (value_at members_cmp members (s, group)) false
 
--- The last report of switch s on its place, and on its members of each group, says what it would tell now. A report that came before those that
--- wait is what the manager recorded.
+-- The last word of switch s on its place, and on its members of each group, says what it would tell now. A word that was treated before those that are
+-- due is what the manager recorded.
 pub record HasReported (f : ControlPlane) (s : ℕ) (id : SwitchId) : Type 0 where
   pub place : last_said place_said (place_of f.manager.told id) (f.reports s) ≡ (f.view s).place
   pub members : (group : ℕ) → last_said (members_said group) (has_told_members f.manager.members id group) (f.reports s) ≡ has_member_of (f.view s).members group
@@ -37,16 +39,18 @@ pub record HasOrders (f : ControlPlane) (s : ℕ) (id : SwitchId) : Type 0 where
   pub parts : (group : ℕ) → last_said (part_said group) (part_of (f.view s) group) (f.orders s) ≡ tree_part f.manager.told f.manager.members group id
   pub rising : IsStrictlySortedBy nat_cmp (keys_of (f.view s).parts)
 
--- each switch of the wiring
+-- each switch of the wiring that is not silent
 abbrev pub HaveReported : ControlPlane → Type 0
-HaveReported f = (s : ℕ) (id : SwitchId) → slice_get f.plan.ids s ≡ Some id → HasReported f s id
+HaveReported f = (s : ℕ) (id : SwitchId) → slice_get f.plan.ids s ≡ Some id → is_silent f.orders s ≡ false → HasReported f s id
 
+-- each switch of the wiring
 abbrev pub HaveOrders : ControlPlane → Type 0
 HaveOrders f = (s : ℕ) (id : SwitchId) → slice_get f.plan.ids s ≡ Some id → HasOrders f s id
 
--- no report and no order waits
+-- no word on records waits, no end of a report, and no order
 pub record NoReportWaits (f : ControlPlane) : Type 0 where
   pub reports : (s : ℕ) → AllByRecursion IsNoReport (f.reports s)
+  pub ends : (s : ℕ) → AllByRecursion IsNoEnd (f.reports s)
   pub orders : (s : ℕ) → AllByRecursion IsNoOrder (f.orders s)
 
 -- what the manager recorded of a switch is what it would tell now, and it holds the avoid list and the tree parts of the records
@@ -69,9 +73,9 @@ pub record IsPair (plan : Plan) (s p t q : ℕ) (id u : SwitchId) : Type 0 where
   pub here : slice_get plan.ids s ≡ Some id
   pub there : slice_get plan.ids t ≡ Some u
 
--- The last report of a switch on its link to another says whether its port to it is usable.
+-- The last word of a switch that is not silent on its link to another says whether its port to it is usable.
 abbrev pub HaveToldLinks : ControlPlane → Type 0
-HaveToldLinks f = (s p t q : ℕ) (id u : SwitchId) → IsPair f.plan s p t q id u →
+HaveToldLinks f = (s p t q : ℕ) (id u : SwitchId) → IsPair f.plan s p t q id u → is_silent f.orders s ≡ false →
     last_said (link_said u) (is_told_usable f.manager.told id u) (f.reports s) ≡ is_usable (f.view s) p
 
 -- what the manager recorded of each link is what both ends would tell now
@@ -87,9 +91,9 @@ is_switch_with plan u (Switch t q) = is_id (slice_get plan.ids t.0) u
 abbrev pub is_neighbour : Plan → ℕ → SwitchId → Bool
 is_neighbour plan s u = list_any (λ p. is_switch_with plan u (peer_of plan s p)) (ports_of_switch plan.k)
 
--- No report says that a link to another switch is usable.
+-- No word of one says that a link to another switch is usable.
 abbrev pub HaveToldNeighbours : ControlPlane → Type 0
-HaveToldNeighbours f = (s : ℕ) (id u : SwitchId) → slice_get f.plan.ids s ≡ Some id → is_neighbour f.plan s u ≡ false →
+HaveToldNeighbours f = (s : ℕ) (id u : SwitchId) → slice_get f.plan.ids s ≡ Some id → is_neighbour f.plan s u ≡ false → is_silent f.orders s ≡ false →
     last_said (link_said u) (is_told_usable f.manager.told id u) (f.reports s) ≡ false
 
 -- what the manager recorded of a usable link is one of the wiring

@@ -93,7 +93,7 @@ facts_of w kept =
             takes = takes_hosts (port_of v port) (ap (λ (u : SwitchView). (port_of u port).heard) (sym here) ∙ kept.placed.strangers s port free);
           };
       own = kept.addresses.own;
-      neighbours = (grounded w kept.counted kept.placed kept.voting kept.given).neighbours;
+      neighbours = (grounded w kept.counted kept.placed kept.voting kept.numbered).neighbours;
       holding = kept.counted.holding;
       host_items = kept.counted.in_host_queues;
       port_items = kept.counted.in_port_queues;

@@ -1,7 +1,8 @@
 -- In a settled fabric the edge switch with position 0 knows its pod, so the others of a pod whose links are live do; and where frames of hosts were
 -- received they know all of their places.
-use Rattle.std.proofs.Common.{◌≡◌, ℕ, zero, suc, ◌<◌, ◌||◌, Bool, false, true≢false, List, [], ◌∷◌, Option, Some, None, Contains, refl, sym, ap, ◌∙◌, arith}
+use Rattle.std.proofs.Common.{◌≡◌, ℕ, zero, suc, ◌<◌, ◌||◌, Bool, false, List, [], ◌∷◌, Some, Contains, slice_get, refl, sym, ap, ◌∙◌, arith}
 use Rattle.std.specs.List.{list_any}
+use Rattle.pl_frame.specs.declared.address.SwitchId.{SwitchId}
 use Rattle.pl_layouts.specs.declared.place.Place.{Place}
 use Rattle.pl_node.specs.declared.messages.ToManager.{ToManager}
 use Rattle.pl_node.specs.declared.messages.ToManager.TheVariants as tell
@@ -11,16 +12,21 @@ use Rattle.pl_queues.specs.Queues.{items_at}
 use Rattle.pl_world.specs.SettledQueues.{HasSettledQueues, IsQuestion, IsReply}
 use Rattle.pl_world.specs.Worlds.{WorldView}
 use Rattle.pl_fabric.specs.Settled.{IsSettled}
-use Rattle.pl_law_control_plane.specs.ControlPlanes.{control_plane}
+use Rattle.pl_law_control_plane.specs.ControlPlanes.{control_plane, ControlPlane}
+use Rattle.pl_law_due.specs.Due.{due_plane, is_hello, is_silent}
+use Rattle.pl_law_due.proofs.Exports.{rest_whole, whole_due}
 use Rattle.pl_law_votes.specs.Voting.{edge_no}
+use Rattle.pl_law_votes.proofs.Exports.{fixed_are_apart}
+use Rattle.pl_law_pods.specs.Ways.{is_number, is_wish}
+use Rattle.pl_law_pods.proofs.Exports.{first_knows, wish_words}
 use Rattle.pl_law_invariant.specs.ControlInvariant.{ControlInvariant}
-use Rattle.pl_law_placing.specs.Asking.{is_number, is_wish}
 use Rattle.pl_law_placing.specs.Placing.{ArePlacing}
 use Rattle.pl_law_placing.specs.Resting.{FirstKnowsPod, KnowPod}
 use Rattle.pl_law_placing.proofs.Exports.{world_pods}
 use Rattle.pl_law_settled.specs.AtPlace.{ReceiversArePlaced}
 use Rattle.pl_law_settled.specs.Whole.{IsWholePod}
 use Rattle.pl_law_settled.proofs.Pods.{resting_pod, settled_positions}
+use Rattle.pl_law_settled.proofs.Records.{rests}
 
 none_of : {X : Type 0} (p : X → Bool) (P : X → Type 0) → ((x : X) → P x → p x ≡ false) → (xs : List X) → ((x : X) → Contains xs x → P x) → list_any p xs ≡ false
 none_of p P not_one [] each = refl
@@ -50,24 +56,42 @@ no_number (say.Release address) is = refl
 no_number (say.Hello epoch) is = absurd is
 no_number (say.Tree group part) is = refl
 
-module _ (w : WorldView) (placing : ArePlacing w) where
+no_hello : (says : ToSwitch) → IsReply says → is_hello says ≡ false
+no_hello (say.Pod n) is = refl
+no_hello (say.Answer asker asker_ip ip pmac) is = refl
+no_hello (say.Flood asker asker_ip ip) is = refl
+no_hello (say.Avoid list) is = refl
+no_hello (say.Invalidate old new number ip) is = refl
+no_hello (say.Release address) is = refl
+no_hello (say.Hello epoch) is = absurd is
+no_hello (say.Tree group part) is = refl
+
+module _ (w : WorldView) (kept : ControlInvariant w) (placing : ArePlacing w) where
   pub pod_of_first : HasSettledQueues w → (s : ℕ) → ((control_plane w).view s).place.position ≡ Some 0 → (n : ℕ) × (((control_plane w).view s).place.pod ≡ Some n)
-  pod_of_first queues s position = by ((control_plane w).view s).place.pod refl
+  pod_of_first queues s position =
+      let is = kept.counted.formed.plan in
+      first_knows f is kept.placed (fixed_are_apart f.plan f.view f.says is kept.voting) kept.numbered s position (loud s) wishes numbers
     where
-      wishes : list_any is_wish (items_at w.to_manager s) ≡ false
-      wishes = none_of is_wish IsQuestion no_wish (items_at w.to_manager s) (queues.to_manager s)
+      f : ControlPlane
+      f = control_plane w
+
+      loud : (t : ℕ) → is_silent f.orders t ≡ false
+      loud t = none_of is_hello IsReply no_hello (items_at w.from_manager t) (queues.from_manager t)
+
+      -- nothing but questions is due of it, and nothing but replies waits for it
+      wishes : (id : SwitchId) → slice_get w.plan.ids s ≡ Some id → list_any is_wish ((due_plane f).reports s) ≡ false
+      wishes id named =
+          let whole = rest_whole f kept.counted.formed.plan kept.gathered (rests w queues).ends (λ t x at. loud t) in
+          ap (list_any is_wish) (whole_due f whole s id named) ∙ wish_words (items_at w.to_manager s)
+          ∙ none_of is_wish IsQuestion no_wish (items_at w.to_manager s) (queues.to_manager s)
 
       numbers : list_any is_number (items_at w.from_manager s) ≡ false
       numbers = none_of is_number IsReply no_number (items_at w.from_manager s) (queues.from_manager s)
 
-      by : (o : Option ℕ) → ((control_plane w).view s).place.pod ≡ o → (n : ℕ) × (((control_plane w).view s).place.pod ≡ Some n)
-      by None none = absurd (true≢false (sym (placing.asked s position none) ∙ ap (λ b. b || list_any is_number (items_at w.from_manager s)) wishes ∙ numbers))
-      by (Some n) is = (n, is)
-
   pub settled_first_pod : HasSettledQueues w → (pod : ℕ) → FirstKnowsPod (control_plane w) pod
   settled_first_pod queues pod i edge position = pod_of_first queues (edge_no w.plan.k pod i) position
 
-  module _ (kept : ControlInvariant w) (settled : IsSettled w) (few : w.steps < 4294967295) (pod : ℕ) (whole : IsWholePod w pod) where
+  module _ (settled : IsSettled w) (few : w.steps < 4294967295) (pod : ℕ) (whole : IsWholePod w pod) where
     pub settled_pods : KnowPod (control_plane w) pod
     settled_pods = world_pods w kept placing pod (resting_pod w kept settled placing few pod whole) (settled_first_pod settled.queues pod)
 

@@ -1,5 +1,5 @@
 -- In a settled fabric a pod whose links are live is at rest.
-use Rattle.std.proofs.Common.{◌≡◌, ℕ, ◌<◌, ◌/◌, ◌&&◌, ◌||◌, Bool, true, false, true≢false, get_or, slice_get, Option, Some, None, refl, sym, ap, ◌∙◌, subst, arith, inl, inr, lt-ltb}
+use Rattle.std.proofs.Common.{◌≡◌, ℕ, ◌<◌, ◌/◌, ◌&&◌, ◌||◌, Bool, true, false, true≢false, slice_get, Option, Some, None, refl, sym, ap, ◌∙◌, subst, arith, inl, inr, lt-ltb}
 use Rattle.std.proofs.lemmas.Option.{slice_get-get_or}
 use Rattle.std.proofs.lemmas.Bool.{and_from}
 use Rattle.pl_lemmas.proofs.Exports.{all_at, second_false}

@@ -43,10 +43,15 @@ module _ (switch : SwitchRule) (manager : ManagerRule) (host : HostRule) (within
   loose = run_lawful switch manager host within lawful (booted plan limits) moments new (first_at_first plan limits) run
 
   pub run_current : HasSettledQueues new → AreCurrent (control_plane new)
-  run_current queues = are_current new (run_reported host sends plan limits moments new can loose) (run_ordered host sends plan limits moments new can loose) queues
+  run_current queues =
+      let all = run_keeps_all host sends owns plan limits moments new can loose in
+      are_current new all.counted.formed.plan all.gathered (run_reported host sends owns plan limits moments new can loose)
+      (run_ordered host sends plan limits moments new can loose) queues
 
   pub run_links_current : HasSettledQueues new → LinksAreCurrent (control_plane new)
-  run_links_current queues = links_current new (run_links host sends owns plan limits moments new can loose) queues
+  run_links_current queues =
+      let all = run_keeps_all host sends owns plan limits moments new can loose in
+      links_current new all.counted.formed.plan all.gathered (run_links host sends owns plan limits moments new can loose) queues
 
   pub run_positions : IsSettled new → new.steps < 4294967295 → (pod : ℕ) → IsWholePod new pod → HavePositions (control_plane new) pod
   run_positions settled few pod whole =
@@ -59,7 +64,7 @@ module _ (switch : SwitchRule) (manager : ManagerRule) (host : HostRule) (within
 
   pub run_placed : IsSettled new → new.steps < 4294967295 → (pod : ℕ) → IsWholePod new pod → ReceiversArePlaced new pod
   run_placed settled few pod whole =
-      receivers_placed new (run_places host sends owns plan limits moments new can loose) (run_keeps_all host sends owns plan limits moments new can loose) settled few pod whole
+      receivers_placed new (run_keeps_all host sends owns plan limits moments new can loose) (run_places host sends owns plan limits moments new can loose) settled few pod whole
 
   -- the table of proposals says what the rows say
   pub run_agrees : (s t : ℕ) (v u : SwitchView) (port q : ℕ) → slice_get new.switches s ≡ Some v → slice_get new.switches t ≡ Some u →

@@ -1,12 +1,15 @@
 ghost use Rattle.std.specs.Prelude.{◌≡◌, ◌<◌, ℕ, Some};
 ghost use Rattle.pl_wiring.specs.declared.label.Label.TheVariants.{Edge};
 ghost use Rattle.pl_wiring.specs.Labels.{IsLabel};
+ghost use Rattle.pl_wiring.specs.Plan.{IsPlan};
 ghost use Rattle.pl_world.specs.SettledQueues.{HasSettledQueues};
 ghost use Rattle.pl_world.specs.Worlds.{WorldView};
 ghost use Rattle.pl_fabric.specs.Settled.{IsSettled};
 ghost use Rattle.pl_law_control_plane.specs.ControlPlanes.{control_plane};
 ghost use Rattle.pl_law_votes.specs.Voting.{edge_no};
 ghost use Rattle.pl_law_invariant.specs.ControlInvariant.{ControlInvariant};
+ghost use Rattle.pl_law_due.specs.Due.{due_plane};
+ghost use Rattle.pl_law_due.specs.Gathering.{GathersWell};
 ghost use Rattle.pl_law_records.specs.Records.{AreCurrent, HaveOrders, HaveReported, HaveToldLinks, NoReportWaits, LinksAreCurrent};
 ghost use Rattle.pl_law_placing.specs.Placing.{ArePlacing};
 ghost use Rattle.pl_law_placing.specs.Resting.{FirstKnowsPod, HasFirst, HavePositions, IsRestingPod, KnowPod};
@@ -22,8 +25,10 @@ pub fn settled_queues_are_at_rest()
 /// So the manager's records are what the switches would tell now, of places, members and links, and each
 /// switch holds the avoid list and the tree parts of the records.
 pub fn records_are_current_where_queues_are_settled()
-    ensures places { (w : WorldView) → HaveReported (control_plane w) → HaveOrders (control_plane w) → HasSettledQueues w → AreCurrent (control_plane w) }
-    ensures links { (w : WorldView) → HaveToldLinks (control_plane w) → HasSettledQueues w → LinksAreCurrent (control_plane w) }
+    ensures places { (w : WorldView) → IsPlan w.plan → GathersWell (control_plane w) → HaveReported (due_plane (control_plane w)) →
+        HaveOrders (control_plane w) → HasSettledQueues w → AreCurrent (control_plane w) }
+    ensures links { (w : WorldView) → IsPlan w.plan → GathersWell (control_plane w) → HaveToldLinks (due_plane (control_plane w)) → HasSettledQueues w →
+        LinksAreCurrent (control_plane w) }
 {}
 
 /// A pod that lacks no link is at rest in a settled fabric, as long as the number of steps is below the
@@ -48,7 +53,7 @@ pub fn one_of_a_settled_pod_has_position_0()
 /// An edge switch with position 0 knows its pod where the queues are settled, since its wish was heard and
 /// answered; so each edge switch of the pod that knows its level does.
 pub fn edge_switches_of_a_settled_pod_know_the_pod()
-    ensures first { (w : WorldView) → ArePlacing w → HasSettledQueues w → (pod : ℕ) → FirstKnowsPod (control_plane w) pod }
+    ensures first { (w : WorldView) → ControlInvariant w → ArePlacing w → HasSettledQueues w → (pod : ℕ) → FirstKnowsPod (control_plane w) pod }
     ensures all { (w : WorldView) → ControlInvariant w → ArePlacing w → IsSettled w → w.steps < 4294967295 → (pod : ℕ) → IsWholePod w pod →
         KnowPod (control_plane w) pod }
 {}

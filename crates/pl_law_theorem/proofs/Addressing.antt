@@ -35,8 +35,8 @@ use Rattle.pl_law_phases.specs.Tenures.{is_held as is_held_there}
 use Rattle.pl_law_addresses.proofs.Exports.{first_passes, granted_here, known_same}
 use Rattle.pl_law_invariant.specs.ControlInvariant.{ControlInvariant}
 use Rattle.pl_law_ledger.specs.Leading.{Leads}
-use Rattle.pl_law_ledger.specs.Ledgers.{IsBacked, IsGrantedThere, ledger}
-use Rattle.pl_law_ledger.proofs.Exports.{are_led, fits_there, grounds, held_somewhere, in_bounds, IsAlike, IsEnteredAll, of_edge, same_says, Says, says}
+use Rattle.pl_law_ledger.specs.Ledgers.{IsBacked, IsGrantedThere, IsLedger, ledger}
+use Rattle.pl_law_ledger.proofs.Exports.{are_led, fits_there, grounds, held_somewhere, in_bounds, IsAlike, of_edge, same_says, Says, says}
 use Rattle.pl_law_flights.specs.OnTheWay.{history_of}
 use Rattle.pl_law_flights.specs.Standing.{IsGranted, IsNextAddress, KnowsAddresses, TrapLeadsOn, WasGranted}
 use Rattle.pl_law_flights.proofs.Exports.{host_unicast}
@@ -106,7 +106,7 @@ both_false false false is so = refl
 both_false false true is so = absurd (false≢true (sym so))
 both_false true b is so = absurd (false≢true (sym is))
 
-module _ (w : WorldView) (kept : ControlInvariant w) (entered : IsEnteredAll w) where
+module _ (w : WorldView) (kept : ControlInvariant w) (entered : IsLedger w) where
   -- the whole journal says no more of addresses than its ledger
   same_holder : (n : ℕ) → holder (reverse w.journal) n ≡ holder (ledger (reverse w.journal)) n
   same_holder n = ap (λ (f : Says). f.hold n) (sym (same_says w.plan (reverse w.journal)))
@@ -123,15 +123,15 @@ module _ (w : WorldView) (kept : ControlInvariant w) (entered : IsEnteredAll w) 
   same_edge_ports n = ap (λ (f : Says). f.edge_ports n) (sym (same_says w.plan (reverse w.journal)))
 
   pub fits_at : (s : ℕ) (v : SwitchView) (x : Pmac) (g : Grant) → slice_get w.switches s ≡ Some v → granted v x ≡ Some g → PmacFits x
-  fits_at s v x g found is = fits_there w.switches kept.counted.shaped (in_bounds w kept entered.asking) entered.ledger.few s v x g found is
+  fits_at s v x g found is = fits_there w.switches kept.counted.shaped (in_bounds w kept) entered.few s v x g found is
 
   pub own_at : (s : ℕ) (v : SwitchView) (x : Pmac) → slice_get w.switches s ≡ Some v → is_local v x ≡ true → PmacFits x → is_group (mac_of x) ≡ false
-  own_at s v x found local fits = pmac_unicast x fits (in_bounds w kept entered.asking s v x found local).pod
+  own_at s v x found local fits = pmac_unicast x fits (in_bounds w kept s v x found local).pod
 
   -- ---- what a switch granted
   granted_then : (t : ℕ) (v : SwitchView) → slice_get w.switches t ≡ Some v → (x : Pmac) (g : Grant) → granted v x ≡ Some g → WasGranted (history_of (reverse w.journal)) t x
   granted_then t v found x g is =
-      let e = entered.ledger.grants t v x g found is in
+      let e = entered.grants t v x g found is in
       let fits = fits_at t v x g found is in
       record { there = same_edge_ports (pmac_number x) ∙ e.there; fits = fits; own = own_at t v x found (granted_parts v x g is).0 fits }
 
@@ -139,7 +139,7 @@ module _ (w : WorldView) (kept : ControlInvariant w) (entered : IsEnteredAll w) 
   granted_so : (t : ℕ) (v : SwitchView) → slice_get w.switches t ≡ Some v → (x : Pmac) (g : Grant) → held_here v x ≡ Some g → IsGranted w.plan (history_of (reverse w.journal)) t x g
   granted_so t v found x g held =
       let is = held_parts v x g held in
-      let e = entered.ledger.grants t v x g found is in
+      let e = entered.grants t v x g found is in
       let mac = host_at w.plan g.amac e.host e.of_mac in
       let fits = fits_at t v x g found is in
       record {
@@ -161,7 +161,7 @@ module _ (w : WorldView) (kept : ControlInvariant w) (entered : IsEnteredAll w) 
       by : (o : Option ℕ) → holder (reverse w.journal) (pmac_number x) ≡ o → o ≡ None
       by None is = refl
       by (Some h) is =
-          let at = held_somewhere w.switches (ledger (reverse w.journal)) (pmac_number x) h entered.ledger.backed (sym (same_holder (pmac_number x)) ∙ is) in
+          let at = held_somewhere w.switches (ledger (reverse w.journal)) (pmac_number x) h entered.backed (sym (same_holder (pmac_number x)) ∙ is) in
           let same : at.pmac ≡ x = same_pmac_number at.pmac x (fits_at at.switch at.there.view at.pmac at.there.grant at.there.found at.there.is) fits at.same in
           let home : is_local at.there.view x ≡ true =
           subst (λ (y : Pmac). is_local at.there.view y ≡ true) same (granted_parts at.there.view at.pmac at.there.grant at.there.is).0 in
@@ -175,7 +175,7 @@ module _ (w : WorldView) (kept : ControlInvariant w) (entered : IsEnteredAll w) 
     where
       by : (o : Option Grant) → granted v x ≡ o → unless_free o ≡ None → is_live (reverse w.journal) (pmac_number x) ≡ false
       by None is free = not_held_not_live (reverse w.journal) (pmac_number x) (held_by_none t v found x fits local is)
-      by (Some g) is free = same_live (pmac_number x) ∙ (entered.ledger.grants t v x g found is).live ∙ free_one g free
+      by (Some g) is free = same_live (pmac_number x) ∙ (entered.grants t v x g found is).live ∙ free_one g free
 
   -- so it has no holder that is live
   held_live_by_none : (t : ℕ) (v : SwitchView) → slice_get w.switches t ≡ Some v → (x : Pmac) → PmacFits x → is_local v x ≡ true → held_here v x ≡ None → live_holder (reverse w.journal) (pmac_number x) ≡ None
@@ -186,7 +186,7 @@ module _ (w : WorldView) (kept : ControlInvariant w) (entered : IsEnteredAll w) 
   -- an address that is granted somewhere, and that has a holder, is for one host
   own_of_held : (x : Pmac) (h : ℕ) → PmacFits x → holder (reverse w.journal) (pmac_number x) ≡ Some h → is_group (mac_of x) ≡ false
   own_of_held x h fits held =
-      let at = held_somewhere w.switches (ledger (reverse w.journal)) (pmac_number x) h entered.ledger.backed (sym (same_holder (pmac_number x)) ∙ held) in
+      let at = held_somewhere w.switches (ledger (reverse w.journal)) (pmac_number x) h entered.backed (sym (same_holder (pmac_number x)) ∙ held) in
       let same : at.pmac ≡ x = same_pmac_number at.pmac x (fits_at at.switch at.there.view at.pmac at.there.grant at.there.found at.there.is) fits at.same in
       own_at at.switch at.there.view x at.there.found
       (subst (λ (y : Pmac). is_local at.there.view y ≡ true) same (granted_parts at.there.view at.pmac at.there.grant at.there.is).0) fits
@@ -213,7 +213,7 @@ module _ (w : WorldView) (kept : ControlInvariant w) (entered : IsEnteredAll w) 
       by : (o : Option Grant) → granted v x ≡ o → grant_trap o ≡ Some trap → TrapLeadsOn (history_of (reverse w.journal)) x trap
       by None at e = absurd (none-some trap e)
       by (Some g) at e =
-          let entry = entered.ledger.grants t v x g found at in
+          let entry = entered.grants t v x g found at in
           leads_on x trap entry.host (same_holder (pmac_number x) ∙ entry.held)
           (are_led w kept entered t v x trap.new trap.number found
           (inl (record { grant = g; trap = trap; found = at; set = e; leads_to = refl; carries = refl })))
@@ -221,7 +221,7 @@ module _ (w : WorldView) (kept : ControlInvariant w) (entered : IsEnteredAll w) 
   back_so : (t : ℕ) (v : SwitchView) → slice_get w.switches t ≡ Some v → (x : Pmac) (port : ℕ) → PmacFits x → edge_port (reverse w.journal) (pmac_number x) ≡ Some (at_port t port) →
       (is_local v x ≡ true) × (x.port ≡ port)
   back_so t v found x port fits is =
-      let at = granted_somewhere w.switches (ledger (reverse w.journal)) (pmac_number x) (at_port t port) entered.ledger.backed (sym (same_edge_ports (pmac_number x)) ∙ is) in
+      let at = granted_somewhere w.switches (ledger (reverse w.journal)) (pmac_number x) (at_port t port) entered.backed (sym (same_edge_ports (pmac_number x)) ∙ is) in
       let same : at.pmac ≡ x = same_pmac_number at.pmac x (fits_at t at.there.view at.pmac at.there.grant at.there.found at.there.is) fits at.same in
       let view : at.there.view ≡ v = same_Some at.there.view v (sym at.there.found ∙ found) in (
         subst (λ (u : SwitchView). is_local u x ≡ true) view
@@ -247,7 +247,7 @@ module _ (w : WorldView) (kept : ControlInvariant w) (entered : IsEnteredAll w) 
   -- ---- what a switch may grant next
   -- entries of addresses with the pod and position of an address are those of its switch
   alike_so : (t : ℕ) (v : SwitchView) → slice_get w.switches t ≡ Some v → (x : Pmac) → is_local v x ≡ true → AllByRecursion (IsAlike x t) (ledger (reverse w.journal))
-  alike_so t v found x local = each_entry (IsBacked w.switches) (IsAlike x t) alike_entry (ledger (reverse w.journal)) entered.ledger.backed
+  alike_so t v found x local = each_entry (IsBacked w.switches) (IsAlike x t) alike_entry (ledger (reverse w.journal)) entered.backed
     where
       alike_by : (y : Pmac) (e p : ℕ) → IsGrantedThere w.switches y e p → are_alike (same_pod_and_position x y) (e == t) ≡ true
       alike_by y e p there = elim (cases_Bool (e == t)) [
@@ -285,7 +285,7 @@ module _ (w : WorldView) (kept : ControlInvariant w) (entered : IsEnteredAll w) 
   pub is_next : (t : ℕ) (v : SwitchView) → slice_get w.switches t ≡ Some v → (x : Pmac) → is_local v x ≡ true → held_here v x ≡ None → x.port < v.k → v.k ≤ 24 → x.vmid ≤ 65535 →
       IsNextAddress (reverse w.journal) t x
   is_next t v found x local none within few last =
-      let low = in_bounds w kept entered.asking t v x found local in
+      let low = in_bounds w kept t v x found local in
       let pod = low.pod in
       let position = low.position in
       let fits : PmacFits x = record { pod = omega (arith, pod); position = omega (arith, position); port = omega (arith, within, few); vmid = omega (arith, last) } in

@@ -36,8 +36,8 @@ use Rattle.pl_law_addresses.specs.FreeVmids.{AreFreeVmids, is_free, is_in}
 use Rattle.pl_law_addresses.specs.OwnFrames.{IsOwnItem}
 use Rattle.pl_law_addresses.proofs.Exports.{number_past, exists_at, granted_here, local_here, number_within, used_is}
 use Rattle.pl_law_invariant.specs.ControlInvariant.{ControlInvariant}
-use Rattle.pl_law_ledger.specs.Ledgers.{IsBacked, ledger}
-use Rattle.pl_law_ledger.proofs.Exports.{grounds, IsEnteredAll, IsLast, same_says, Says, says, source_is, spent_there}
+use Rattle.pl_law_ledger.specs.Ledgers.{IsBacked, IsLedger, ledger}
+use Rattle.pl_law_ledger.proofs.Exports.{grounds, IsLast, same_says, Says, says, source_is, spent_there}
 use Rattle.pl_law_flights.specs.Standing.{KnowsHosts, StandsOn, StandsOnHosts}
 use Rattle.pl_law_flights.proofs.Exports.{host_by_mac}
 use Rattle.pl_law_theorem.proofs.Addressing.{each_entry, fits_at, is_next, knows_addresses}
@@ -117,7 +117,7 @@ same_granted [] h there = refl
 same_granted (Granted y g e p ∷ past) h there = ap (λ (o : Option Pmac). if (g.0 == h) && same_edge_port (at_port e.0 p) there then Some y else o) (same_granted past h there)
 same_granted (entry ∷ past) h there = same_granted past h there
 
-module _ (w : WorldView) (kept : ControlInvariant w) (entered : IsEnteredAll w) where
+module _ (w : WorldView) (kept : ControlInvariant w) (entered : IsLedger w) where
   size_at : (t : ℕ) (v : SwitchView) → slice_get w.switches t ≡ Some v → IsShaped v
   size_at t v found = all_found IsShaped w.switches t v kept.counted.shaped found
 
@@ -130,7 +130,7 @@ module _ (w : WorldView) (kept : ControlInvariant w) (entered : IsEnteredAll w) 
       let here = local_here v port vmid settled in
       let is : granted v x ≡ Some u.grant = granted_here v x here ∙ u.found in
       let host : host_of w.plan u.grant.amac ≡ Some h = ap (host_of w.plan) u.mac_is ∙ host_by_mac w.plan h amac kept.counted.formed.plan of in
-      same_granted (reverse w.journal) h (at_port t port) ∙ entered.ledger.last t v x u.grant h found is u.used host
+      same_granted (reverse w.journal) h (at_port t port) ∙ entered.last t v x u.grant h found is u.used host
 
   -- where no address of a port is free, each one that was granted there is live
   live_so : (t : ℕ) (v : SwitchView) → slice_get w.switches t ≡ Some v → (port : ℕ) → freed_at v port ≡ [] →
@@ -138,7 +138,7 @@ module _ (w : WorldView) (kept : ControlInvariant w) (entered : IsEnteredAll w) 
   live_so t v found port none_free =
       let past : List Entry = reverse w.journal in
       ap (λ (f : Says). f.all_live (is_live past) (at_port t port)) (sym (same_says w.plan past))
-      ∙ live_at (is_live past) (ledger past) (at_port t port) (each_entry (IsBacked w.switches) (IsLiveAt (is_live past) (at_port t port)) one_live (ledger past) entered.ledger.backed)
+      ∙ live_at (is_live past) (ledger past) (at_port t port) (each_entry (IsBacked w.switches) (IsLiveAt (is_live past) (at_port t port)) one_live (ledger past) entered.backed)
     where
       one_live : (entry : Entry) → IsBacked w.switches entry → IsLiveAt (is_live (reverse w.journal)) (at_port t port) entry
       one_live (Granted y h e p) there = λ same.
@@ -150,7 +150,7 @@ module _ (w : WorldView) (kept : ControlInvariant w) (entered : IsEnteredAll w) 
           let listed = (kept.addresses.addressed.address_tables t v found).free port in
           let unlisted : is_in y.vmid (freed_at v port) ≡ false = ap (λ (vs : List ℕ). is_in y.vmid vs) none_free in
           let held : is_held there.grant.held ≡ true = not_true (is_held there.grant.held) (ap is_free (sym numbered) ∙ sym (listed.listed y.vmid) ∙ unlisted) in
-          ap (λ (f : Says). f.live (pmac_number y)) (sym (same_says w.plan (reverse w.journal))) ∙ (entered.ledger.grants e.0 there.view y there.grant there.found there.is).live ∙ held
+          ap (λ (f : Says). f.live (pmac_number y)) (sym (same_says w.plan (reverse w.journal))) ∙ (entered.grants e.0 there.view y there.grant there.found there.is).live ∙ held
       one_live entry there = tt
 
   -- a port that has given the largest vmid
@@ -161,10 +161,10 @@ module _ (w : WorldView) (kept : ControlInvariant w) (entered : IsEnteredAll w) 
       let x : Pmac = address_at_port v port 65535 in
       let here = local_here v port 65535 settled in
       let is : granted v x ≡ Some at.0 = granted_here v x here ∙ at.1 in
-      let e = entered.ledger.grants t v x at.0 found is in
+      let e = entered.grants t v x at.0 found is in
       ap (λ (f : Says). f.spent (at_port t port)) (sym (same_says w.plan (reverse w.journal)))
       ∙ spent_there (ledger (reverse w.journal)) (pmac_number x) (at_port t port)
-      (each_entry (IsBacked w.switches) (IsLast (pmac_number x)) (last_entry x (fits_at w kept entered t v x at.0 found is) refl) (ledger (reverse w.journal)) entered.ledger.backed) e.there
+      (each_entry (IsBacked w.switches) (IsLast (pmac_number x)) (last_entry x (fits_at w kept entered t v x at.0 found is) refl) (ledger (reverse w.journal)) entered.backed) e.there
     where
       last_entry : (x : Pmac) → PmacFits x → x.vmid ≡ 65535 → (entry : Entry) → IsBacked w.switches entry → IsLast (pmac_number x) entry
       last_entry x fits last (Granted y h e p) there = λ same.
@@ -199,7 +199,7 @@ module _ (w : WorldView) (kept : ControlInvariant w) (entered : IsEnteredAll w) 
         spent = spent_so t v found;
         empty = address_table.empty;
         stood = λ port h source is of.
-            let e = entered.ledger.sources t v port source found is in
+            let e = entered.sources t v port source found is in
             let same : e.host ≡ h = same_Some e.host h (sym e.of_mac ∙ of) in
             ap (λ (f : Says). f.stood h (at_port t port)) (sym (same_says w.plan (reverse w.journal)))
             ∙ subst (λ (n : ℕ). has_stood w.plan (ledger (reverse w.journal)) n (at_port t port) ≡ true) same e.stood;
@@ -207,7 +207,7 @@ module _ (w : WorldView) (kept : ControlInvariant w) (entered : IsEnteredAll w) 
             let x : Pmac = address_at_port v port vmid in
             let here = local_here v port vmid settled in
             let size : v.k ≡ w.plan.k = all_found (λ (u : SwitchView). u.k ≡ w.plan.k) w.switches t v kept.counted.formed.ports found in
-            let is = next_free (freed_at v port) (grants_at v port) vmid (address_table.free port) (entered.ledger.few t v port found) next in
+            let is = next_free (freed_at v port) (grants_at v port) vmid (address_table.free port) (entered.few t v port found) next in
             is_next w kept entered t v found x here (ap unless_free (granted_here v x here) ∙ is.0) (subst (λ n. port < n) (sym size) within) shaped.high is.1;
       }
 

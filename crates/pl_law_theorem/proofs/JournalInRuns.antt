@@ -21,7 +21,8 @@ use Rattle.pl_journal.specs.declared.entry.Entry.TheVariants.{Line, Settled, Uns
 use Rattle.pl_law_control_plane.specs.ControlPlanes.{control_plane}
 use Rattle.pl_law_control_plane.proofs.Exports.{plan_stays, step_in_plane}
 use Rattle.pl_law_invariant.specs.ControlInvariant.{ControlInvariant}
-use Rattle.pl_law_ledger.proofs.Exports.{entered_first, entered_mark, entered_step, IsEnteredAll, kept_in_run}
+use Rattle.pl_law_ledger.specs.Ledgers.{IsLedger}
+use Rattle.pl_law_ledger.proofs.Exports.{boot_ledger, entered_mark, entered_step, kept_in_run}
 use Rattle.pl_law_flights.specs.Given.{IsGroundForStep}
 use Rattle.pl_law_flights.specs.OnTheWay.{IsJournaled, JournalSays, history_of, place_in}
 use Rattle.pl_law_flights.proofs.Exports.{booted_journaled, counts, kept, nobody, note, reverse_noted, same_history, step_journaled}
@@ -50,7 +51,7 @@ mark_journaled w entry is counted journaled = by entry is
 
 module _ (host : HostRule) (sends : HostsSendData host) (owns : HostsSendOwn host) (keeps : HostsKeepFrames host) where
   -- ---- what each step needs
-  pub is_given : (old : WorldView) (event : Event) (new : WorldView) → ControlInvariant old → ControlInvariant new → IsEnteredAll old → IsEnteredAll new → GroupsArriveWell host old →
+  pub is_given : (old : WorldView) (event : Event) (new : WorldView) → ControlInvariant old → ControlInvariant new → IsLedger old → IsLedger new → GroupsArriveWell host old →
       refusal old event ≡ None → WorldStep Loose manager_rule host old event new → IsGroundForStep manager_rule host old new
   is_given old event new kept kept_then entered entered_then groups none step =
       let same = plan_stays Loose manager_rule (control_plane old) (control_plane new)
@@ -67,7 +68,7 @@ module _ (host : HostRule) (sends : HostsSendData host) (owns : HostsSendOwn hos
       }
 
   record HoldsBoth (w : WorldView) : Type 0 where
-    entered : IsEnteredAll w
+    entered : IsLedger w
     journaled : IsJournaled w
 
   step_both : (old : WorldView) (event : Event) (new : WorldView) → ControlInvariant old → ControlInvariant new → GroupsArriveWell host old → HoldsBoth old → refusal old event ≡ None →
@@ -86,4 +87,4 @@ module _ (host : HostRule) (sends : HostsSendData host) (owns : HostsSendOwn hos
       WorldRun Loose manager_rule host (booted plan limits) moments new → IsJournaled new
   journaled_in_run plan limits can groups moments new run =
       (kept_in_run host sends owns (GroupsArriveWell host) HoldsBoth step_both mark_both plan limits can groups
-      (record { entered = entered_first plan limits; journaled = booted_journaled plan limits can }) moments new run).journaled
+      (record { entered = boot_ledger plan limits; journaled = booted_journaled plan limits can }) moments new run).journaled

@@ -1,5 +1,5 @@
 -- Where all of it is kept, what switches know of places and addresses is what the journal says.
-use Rattle.std.proofs.Common.{◌≡◌, ◌&&◌, nat_lt, ℕ, zero, suc, Bool, true, false, get_or, List, [], ◌∷◌, Option, Some, None, slice_get, refl, sym, ap, ◌∙◌, inl, inr, arith}
+use Rattle.std.proofs.Common.{◌≡◌, ◌&&◌, nat_lt, ℕ, zero, suc, Bool, true, false, get_or, List, [], ◌∷◌, Option, Some, None, slice_get, refl, sym, ap, ◌∙◌}
 use Rattle.std.proofs.lemmas.Bool.{false≢true}
 use Rattle.std.proofs.lemmas.Option.{get_or_from_slice_get, none-some, same_Some}
 use Rattle.pl_layouts.specs.declared.place.Place.{Place}
@@ -9,7 +9,7 @@ use Rattle.pl_wiring.specs.declared.label.SwitchNo.{SwitchNo}
 use Rattle.pl_wiring.specs.declared.link.Peer.{Peer}
 use Rattle.pl_wiring.specs.declared.link.Peer.TheVariants.{HostPort, Switch}
 use Rattle.pl_wiring.specs.Peers.{peer_of}
-use Rattle.pl_journal.specs.Places.{is_host_port, number}
+use Rattle.pl_journal.specs.Places.{is_host_port}
 use Rattle.pl_node.specs.declared.neighbour.Neighbour.{Neighbour}
 use Rattle.pl_node.specs.PortRecords.{heard_echo, heard_place, is_id, is_usable, place_at, port_of}
 use Rattle.pl_node.specs.SwitchViews.{SwitchView}
@@ -19,7 +19,6 @@ use Rattle.pl_law_control_plane.proofs.Exports.{adjacent_turned}
 use Rattle.pl_law_places.specs.Known.{pod_of}
 use Rattle.pl_law_votes.proofs.Exports.{fixed_are_apart}
 use Rattle.pl_law_invariant.specs.ControlInvariant.{ControlInvariant}
-use Rattle.pl_law_ledger.proofs.Exports.{says}
 use Rattle.pl_law_flights.specs.OnTheWay.{known_place, place_in}
 use Rattle.pl_law_flights.specs.Standing.{KnowsNeighbours, KnowsPlaces}
 

@@ -1,5 +1,5 @@
 -- Of a world and the one after a step: what was known of places is known, first addresses could be granted, and the manager numbers well.
-use Rattle.std.proofs.Common.{◌≡◌, ◌≤◌, ◌≢◌, ◌<◌, ◌+◌, ◌==◌, ◌&&◌, ℕ, true, false, List, [], ◌∷◌, length, reverse, Option, Some, None, slice_get, refl, sym, ap, subst, subst₂, ◌∙◌, inl, inr, arith, le_refl}
+use Rattle.std.proofs.Common.{◌≡◌, ◌≤◌, ◌<◌, ◌+◌, ◌==◌, ◌&&◌, ℕ, true, false, List, [], ◌∷◌, length, reverse, Option, Some, None, slice_get, refl, sym, ap, subst, subst₂, ◌∙◌, inl, inr, arith, le_refl}
 use Rattle.std.specs.List.{AllByRecursion}
 use Rattle.std.proofs.lemmas.Bool.{and_parts, cases_Bool, eqb-true, false≢true}
 use Rattle.std.proofs.lemmas.Option.{same_Some, slice_get_within}
@@ -38,8 +38,8 @@ use Rattle.pl_law_addresses.specs.GrantedOnce.{StayUnlessFreed, times_freed}
 use Rattle.pl_law_addresses.specs.OwnAddresses.{own_ip}
 use Rattle.pl_law_addresses.proofs.Exports.{exists_at, local_here, local_settled, moment_of, step_in_order}
 use Rattle.pl_law_invariant.specs.ControlInvariant.{ControlInvariant}
-use Rattle.pl_law_ledger.specs.Ledgers.{IsBacked, IsGrantedThere, ledger}
-use Rattle.pl_law_ledger.proofs.Exports.{grounds, held_somewhere, in_bounds, IsAlike, IsEnteredAll, learns, LearnsBy, LearnsOne, Numbering, numberings, of_edge, places_grow, same_says, Says, says}
+use Rattle.pl_law_ledger.specs.Ledgers.{IsBacked, IsGrantedThere, IsLedger, ledger}
+use Rattle.pl_law_ledger.proofs.Exports.{grounds, held_somewhere, in_bounds, IsAlike, learns, LearnsBy, LearnsOne, Numbering, numberings, of_edge, places_grow, same_says, Says, says}
 use Rattle.pl_law_flights.specs.Given.{ManagerNumbersWell, NumbersWell}
 use Rattle.pl_law_flights.specs.OnTheWay.{place_in}
 use Rattle.pl_law_flights.specs.Standing.{FirstAddresses, IsMore}
@@ -72,7 +72,7 @@ stays_granted host sends owns old event new kept kept_then step =
     })).since
 
 -- ---- first addresses
-module _ (old new : WorldView) (kept : ControlInvariant old) (kept_then : ControlInvariant new) (entered : IsEnteredAll old) (entered_then : IsEnteredAll new)
+module _ (old new : WorldView) (kept : ControlInvariant old) (kept_then : ControlInvariant new) (entered : IsLedger old) (entered_then : IsLedger new)
     (still : StayUnlessFreed old.switches old.journal new.switches new.journal) where
   module _ (t : ℕ) (before after : SwitchView) (found : slice_get old.switches t ≡ Some before) (found_then : slice_get new.switches t ≡ Some after)
       (unsettled : is_settled before.place ≡ false) (x : Pmac) (local : is_local after x ≡ true) (fits : PmacFits x) where
@@ -95,13 +95,13 @@ module _ (old new : WorldView) (kept : ControlInvariant old) (kept_then : Contro
         by : (o : Option ℕ) → holder (reverse old.journal) (pmac_number x) ≡ o → o ≡ None
         by None is = refl
         by (Some h) is =
-            let at = held_somewhere old.switches (ledger (reverse old.journal)) (pmac_number x) h entered.ledger.backed
+            let at = held_somewhere old.switches (ledger (reverse old.journal)) (pmac_number x) h entered.backed
             (ap (λ (f : Says). f.hold (pmac_number x)) (same_says old.plan (reverse old.journal)) ∙ is) in
             let same : at.pmac ≡ x = same_pmac_number at.pmac x (fits_at old kept entered at.switch at.there.view at.pmac at.there.grant at.there.found at.there.is) fits at.same in
             absurd (nowhere at.switch at.pmac at.port at.there (ap (λ (z : Pmac). z.pod) same) (ap (λ (z : Pmac). z.position) same))
 
     alike_none : AllByRecursion (IsAlike x t) (ledger (reverse old.journal))
-    alike_none = each_entry (IsBacked old.switches) (IsAlike x t) one (ledger (reverse old.journal)) entered.ledger.backed
+    alike_none = each_entry (IsBacked old.switches) (IsAlike x t) one (ledger (reverse old.journal)) entered.backed
       where
         one : (entry : Entry) → IsBacked old.switches entry → IsAlike x t entry
         one (Granted y h e p) there = both_false (same_pod_and_position x y) (e.0 == t)
@@ -123,7 +123,7 @@ module _ (old new : WorldView) (kept : ControlInvariant old) (kept_then : Contro
   first_addresses same t before after found found_then unsettled settled port within =
       let x : Pmac = address_at_port after port 1 in
       let local = local_here after port 1 settled in
-      let low = in_bounds new kept_then entered_then.asking t after x found_then local in
+      let low = in_bounds new kept_then t after x found_then local in
       let pod = low.pod in
       let position = low.position in
       let few = kept.counted.formed.plan.arity.most in
@@ -147,7 +147,7 @@ by_numberings plan [] past well = tt
 by_numberings plan (Say to says ∷ acts) past well = by_numberings plan acts past well
 by_numberings plan (Number x n ∷ acts) past well = (well.0, by_numberings plan acts (Registered x n ∷ past) well.1)
 
-module _ (w : WorldView) (kept : ControlInvariant w) (entered : IsEnteredAll w) where
+module _ (w : WorldView) (kept : ControlInvariant w) (entered : IsLedger w) where
   -- what is learnt may be numbered: it is somebody's, and its number is above all before
   one_well : (s : ℕ) (v : SwitchView) → slice_get w.switches s ≡ Some v → (x : Pmac) (g : Grant) → granted v x ≡ Some g → is_held g.held ≡ true →
       (after : Learnt) (ns : List Numbering) → LearnsOne w.manager.learnt after ns x → OneWell w.plan (reverse w.journal) ns
@@ -155,13 +155,13 @@ module _ (w : WorldView) (kept : ControlInvariant w) (entered : IsEnteredAll w) 
     where
       is_live_now : is_live (reverse w.journal) (pmac_number x) ≡ true
       is_live_now =
-          let e = entered.ledger.grants s v x g found is in
+          let e = entered.grants s v x g found is in
           ap (λ (f : Says). f.live (pmac_number x)) (sym (same_says w.plan (reverse w.journal))) ∙ e.live ∙ held
 
       above : highest (reverse w.journal) < w.manager.learnt.count + 1
       above =
           let most : highest (reverse w.journal) ≤ w.manager.learnt.count =
-          subst (λ n. n ≤ w.manager.learnt.count) (ap (λ (f : Says). f.top) (same_says w.plan (reverse w.journal))) entered.ledger.most in
+          subst (λ n. n ≤ w.manager.learnt.count) (ap (λ (f : Says). f.top) (same_says w.plan (reverse w.journal))) entered.most in
           omega (arith, most)
 
   pub numbers_well : ManagerNumbersWell manager_rule w

@@ -12,6 +12,7 @@ use Rattle.pl_law_control_plane.specs.ControlPlanes.{ControlPlane, control_plane
 use Rattle.pl_law_records.specs.Entries.{last_registration, place_written}
 use Rattle.pl_law_invariant.specs.ControlInvariant.{ControlInvariant}
 use Rattle.pl_law_placing.specs.Placing.{ArePlacing}
+use Rattle.pl_law_due.specs.Due.{due_plane}
 use Rattle.pl_law_records.specs.Records.{AreCurrent, HaveOrders, HaveReported, HaveToldLinks, HaveToldNeighbours, NoReportWaits, LinksAreCurrent, LinksAreOfNeighbours}
 use Rattle.pl_law_copies.specs.Trees.{AreTrees}
 use Rattle.pl_law_copies.specs.Alone.{AreAlone}
@@ -47,10 +48,10 @@ pub record HostsAreInOrder (w : WorldView) : Type 0 where
 
 -- What the manager knows, and what it ordered.
 pub record RecordsAreInOrder (f : ControlPlane) : Type 0 where
-  -- the last report of each switch, on its place, its members and its links, is what it would tell now
-  pub reports : HaveReported f
-  pub links : HaveToldLinks f
-  pub neighbours : HaveToldNeighbours f
+  -- the last word of each switch that is due, or was treated, on its place, its members and its links, is what it would tell now
+  pub reports : HaveReported (due_plane f)
+  pub links : HaveToldLinks (due_plane f)
+  pub neighbours : HaveToldNeighbours (due_plane f)
   -- the last avoid list and the last parts of trees that each switch was sent follow from the records
   pub orders : HaveOrders f
   -- so where none of these waits, the records are current, and each switch holds the avoid list and the parts of trees that follow from them
@@ -61,7 +62,7 @@ pub record RecordsAreInOrder (f : ControlPlane) : Type 0 where
 -- What is told and ordered, and frames of groups.
 pub record CopiesAreInOrder (w : WorldView) : Type 0 where
   -- what is told of places, links and members is so, and parts of trees lead up and down
-  pub trees : AreTrees w.plan (control_plane w)
+  pub trees : AreTrees w.plan (due_plane (control_plane w))
   pub around : KnowTrees w
   -- of the frames of one root at most one comes, or may still come, to each port for hosts
   pub once : ComesOnce w

@@ -11,7 +11,8 @@ use pl_law_copies::{
     what_is_told_and_ordered_is_so_in_every_run,
 };
 use pl_law_invariant::{
-    each_run_of_lawful_logic_is_a_run_of_the_rules, lawful_logic_keeps_all_of_it,
+    each_run_of_lawful_logic_is_a_run_of_the_rules, every_run_keeps_all_of_it,
+    lawful_logic_keeps_all_of_it,
 };
 use pl_law_ledger::{
     each_number_given_is_below_the_number_of_pods, pods_and_positions_are_of_one_byte_in_every_run,
@@ -65,6 +66,7 @@ pub fn records_are_in_order_in_every_run<H: HostLogic>()
     links_are_told_in_every_run::<H>();
     links_to_neighbours_alone_are_told_usable_in_every_run::<H>();
     orders_are_of_the_records_in_every_run::<H>();
+    every_run_keeps_all_of_it::<H>();
     records_are_current_at_rest();
     usable_pairs_are_current_at_rest();
     usable_links_are_those_of_the_wiring_at_rest();

@@ -3,4 +3,4 @@ use Rattle.pl_law_ledger.proofs.run_laws.the_journal_says_what_was_granted_in_ev
 
 pub returns : goal.returns
 returns g c = λ plan limits moments new can run.
-    (entered_in_run g.H.HostLogic.rule g.met.H.HostLogic.sends g.met.H.HostLogic.owns plan limits can moments new run).ledger
+    entered_in_run g.H.HostLogic.rule g.met.H.HostLogic.sends g.met.H.HostLogic.owns plan limits can moments new run

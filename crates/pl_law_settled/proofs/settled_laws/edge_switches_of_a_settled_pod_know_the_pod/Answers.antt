@@ -5,4 +5,4 @@ pub returns-clause-first : goal.returns-clause-first
 returns-clause-first c = settled_first_pod
 
 pub returns-clause-all : goal.returns-clause-all
-returns-clause-all c = λ w kept placing settled few pod whole. settled_pods w placing kept settled few pod whole
+returns-clause-all c = settled_pods

@@ -2,4 +2,4 @@ use Rattle.pl_law_settled.proofs.Placed.{receivers_placed}
 use Rattle.pl_law_settled.proofs.settled_laws.edge_switches_of_a_settled_pod_that_received_frames_of_hosts_are_placed.Goals as goal
 
 pub returns : goal.returns
-returns c = λ w kept placing settled few pod whole. receivers_placed w placing kept settled few pod whole
+returns c = receivers_placed

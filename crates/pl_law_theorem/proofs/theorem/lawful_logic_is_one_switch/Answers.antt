@@ -1,4 +1,4 @@
-use Rattle.std.proofs.Common.{◌≡◌, [], refl, subst}
+use Rattle.std.proofs.Common.{subst}
 use Rattle.pl_wiring.specs.Plan.{Plan}
 use Rattle.pl_world.specs.Booting.{booted}
 use Rattle.pl_world.specs.Runs.{WorldRun}

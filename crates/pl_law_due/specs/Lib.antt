@@ -1,0 +1,4 @@
+pub mod Due
+pub mod DueSteps
+pub mod Gathering
+pub mod DueExamples

@@ -1,9 +1,0 @@
-use Rattle.pl_law_control_plane.specs.ControlPlanes.{control_plane}
-use Rattle.pl_law_pods.proofs.Exports.{known_are_given}
-use Rattle.pl_law_invariant.proofs.KeepingControl.{run_keeps_all}
-use Rattle.pl_law_invariant.proofs.kept_laws.known_pods_were_given_in_every_run.Goals as goal
-
-pub returns : goal.returns
-returns g c = λ plan limits moments new can run.
-    let all = run_keeps_all g.H.HostLogic.rule g.met.H.HostLogic.sends g.met.H.HostLogic.owns plan limits moments new can run in
-    known_are_given (control_plane new) all.placed all.given

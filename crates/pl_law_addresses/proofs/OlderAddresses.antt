@@ -53,7 +53,7 @@ held_still (Trapped trap age) = refl
 held_still (Resting number) = refl
 held_still Free = refl
 
-trap_still : (h : AddressUse) → standing_trap (older h) ≡ standing_trap h
+pub trap_still : (h : AddressUse) → standing_trap (older h) ≡ standing_trap h
 trap_still (InUse idle) = refl
 trap_still (Trapped trap age) = refl
 trap_still (Resting number) = refl

@@ -40,6 +40,7 @@ told_append (a ∷ xs) ys = told_append xs ys
 abbrev pub IsSilentWord : ToManager → Type 0
 IsSilentWord (tell.Learned pmac amac ip) = ⊥
 IsSilentWord (tell.Aged pmac number) = ⊥
+IsSilentWord (tell.Trapped old new number) = ⊥
 IsSilentWord told = Unit {0}
 
 abbrev pub IsSilent : Act → Type 0

@@ -1,5 +1,5 @@
 -- In a settled fabric links, views and the manager's records agree.
-use Rattle.std.proofs.Common.{◌≡◌, ℕ, ◌<◌, true, Option, Some, slice_get, sym, ap, ◌∙◌, subst, inl, inr, arith}
+use Rattle.std.proofs.Common.{◌≡◌, ℕ, ◌<◌, true, Some, slice_get, sym, ap, ◌∙◌, subst, inl, inr, arith}
 use Rattle.std.proofs.lemmas.Bool.{cases_eq}
 use Rattle.std.proofs.lemmas.List.{get_or_default}
 use Rattle.std.proofs.lemmas.Option.{same_Some, slice_get-get_or}
@@ -8,7 +8,7 @@ use Rattle.pl_frame.specs.declared.address.SwitchId.{SwitchId}
 use Rattle.pl_layouts.specs.Equality.{same_switch}
 use Rattle.pl_layouts.proofs.Exports.{switch_itself}
 use Rattle.pl_wiring.specs.declared.link.Peer.{Peer}
-use Rattle.pl_wiring.specs.Labels.{label_of, switch_count}
+use Rattle.pl_wiring.specs.Labels.{switch_count}
 use Rattle.pl_wiring.specs.LiveLinks.{is_live, is_live_at}
 use Rattle.pl_wiring.specs.Plan.{IsPlan}
 use Rattle.pl_wiring.proofs.Exports.{at_contained, peer_is_switch}
@@ -22,7 +22,6 @@ use Rattle.pl_world.specs.Worlds.{WorldView}
 use Rattle.pl_fabric.specs.Settled.{IsSettled, IsSettledEnd, IsSettledTowards}
 use Rattle.pl_law_control_plane.specs.ControlPlanes.{AreAdjacent, control_plane, no_switch}
 use Rattle.pl_law_control_plane.proofs.Exports.{adjacent_there, adjacent_turned}
-use Rattle.pl_law_places.specs.Known.{pod_of}
 use Rattle.pl_law_places.proofs.Exports.{one_number}
 use Rattle.pl_law_votes.proofs.Exports.{fixed_are_apart, ids_differ}
 use Rattle.pl_law_pods.proofs.Exports.{one_pod}

@@ -9,6 +9,6 @@ pub use Rattle.pl_law_control_plane.proofs.SilentFrames.{comes_from_switch_silen
 pub use Rattle.pl_law_control_plane.proofs.SilentHosts.{answers_silent, floods_silent, invalidates_silent, takes_in_or_spent_silent}
 pub use Rattle.pl_law_control_plane.proofs.HostsAtEdgePorts.{hosts_at_first}
 pub use Rattle.pl_law_control_plane.proofs.HostsStayWithoutMoves.{plan_stays}
-pub use Rattle.pl_law_control_plane.proofs.StepsOfPlane.{step_in_plane, whole_step}
+pub use Rattle.pl_law_control_plane.proofs.StepsOfPlane.{frames_come_so, step_in_plane, whole_step}
 pub use Rattle.pl_law_control_plane.proofs.Taking.{nothing_left}
 pub use Rattle.pl_law_control_plane.proofs.TurnsInControlPlane.{solid, switch_turns}

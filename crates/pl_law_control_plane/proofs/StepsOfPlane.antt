@@ -17,6 +17,7 @@ use Rattle.pl_node.specs.Accounting.{AccountsForFrames}
 use Rattle.pl_node.specs.HostInputs.{HostRule}
 use Rattle.pl_node.specs.ManagerDuties.{ManagerRule}
 use Rattle.pl_node.specs.SwitchInputs.{SwitchRule}
+use Rattle.pl_node.specs.SwitchViews.{SwitchView}
 use Rattle.pl_node.specs.SwitchInputs.SwitchInput.{Comes, Says, Tick}
 use Rattle.pl_journal.specs.declared.cause.Skip.{Skip}
 use Rattle.pl_journal.specs.declared.entry.Entry.TheVariants.{Crossed}
@@ -39,7 +40,8 @@ use Rattle.pl_world.proofs.Exports.{all_at, all_found, by_host, event_is_not_ref
 use Rattle.pl_world.proofs.Exports.Happened.{Asked, Departed, Failed, FromHost, Lost, Ordered as WasOrdered, OutOfPort, OverLink, PlayedFrame, Repaired, Reported, Ticked as HasTicked}
 use Rattle.pl_law_control_plane.specs.ControlPlanes.{ControlPlane, control_plane}
 use Rattle.pl_law_control_plane.specs.HostsAtEdges.{HostsAtEdges, IsAtEdge}
-use Rattle.pl_law_control_plane.specs.PlaneSteps.{IsLeft, PlaneStep, SwitchTurns, WholeStep}
+use Rattle.pl_law_control_plane.specs.Incoming.{ComeInSo}
+use Rattle.pl_law_control_plane.specs.PlaneSteps.{ComeSo, IsLeft, PlaneStep, SwitchTurns, WholeStep}
 use Rattle.pl_law_control_plane.specs.PlaneSteps.PlaneStep.{Carried, Entered, Heard, Left, Managed, Ordered, Ticked}
 use Rattle.pl_law_control_plane.proofs.Managing.{manager_turns}
 use Rattle.pl_law_control_plane.proofs.Taking.{cut_out, data_first, item_taken, left_then, nothing_left, order_taken, report_taken}
@@ -159,9 +161,13 @@ module _ (switch : SwitchRule) (manager : ManagerRule) (host : HostRule) (accoun
   frames_left : (w mid : WorldView) (g : ControlPlane) → IsLeft (control_plane w) (control_plane mid) → mid.to_manager ≡ w.to_manager →
       mid.from_manager ≡ w.from_manager →
       g ≡ control_plane mid → WholeStep switch manager (control_plane w) g
-  frames_left w mid g left reports orders same =
-      subst (λ x. WholeStep switch manager (control_plane w) x) (sym same)
-      (Left left, record { reports = λ s. ap (λ queues. items_at queues s) reports; orders = λ s. ap (λ queues. items_at queues s) orders })
+  frames_left w mid g left reports orders same = (
+    Left (subst (IsLeft (control_plane w)) (sym same) left),
+    record {
+      reports = λ s. ap (λ (x : ControlPlane). x.reports s) same ∙ ap (λ queues. items_at queues s) reports;
+      orders = λ s. ap (λ (x : ControlPlane). x.orders s) same ∙ ap (λ queues. items_at queues s) orders;
+    },
+  )
 
   by_case : (w : WorldView) (happens : Event) (new : WorldView) → refusal_of_event w happens ≡ None → IsReady w → Happened switch manager host w happens new →
       WholeStep switch manager (control_plane w) (control_plane new)
@@ -233,3 +239,64 @@ module _ (switch : SwitchRule) (manager : ManagerRule) (host : HostRule) (accoun
   pub step_in_plane : (old : WorldView) (happens : Event) (new : WorldView) → IsCounted old → HostsAtEdges old → refusal old happens ≡ None →
       WorldStep switch manager host old happens new → PlaneStep switch manager (control_plane old) (control_plane new)
   step_in_plane old happens new is attachments none step = (whole_step old happens new is attachments none step).0
+
+  -- ---- how data frames come in
+  module _ (entered linked : SwitchView → ℕ → List ℕ → Type 0) where
+    abbrev So : (f g : ControlPlane) → WholeStep switch manager f g → Type 0
+    So f g step = ComeSo entered linked switch manager f g step.0
+
+    from_host_so : (w : WorldView) (h : ℕ) (item : Item) (items : List Item) (attachment : AttachmentPoint) (new : WorldView) (r : IsReady w)
+        (found : slice_get w.attachments h ≡ Some attachment) (is : IsDataItem item)
+        (comes : ComesAtSwitch switch (heard_item (record w { from_hosts = set w.from_hosts h items }) h item) attachment.edge.0 attachment.port item new) →
+        ((id : ℕ) (frame : List ℕ) → item ≡ Data id frame → entered ((control_plane w).view attachment.edge.0) attachment.port frame) →
+        So (control_plane w) (control_plane new) (from_host w h item items attachment new r found is comes)
+    unfolding from_host comes_from_host
+    from_host_so w h (Control frame) items attachment new r found is comes so = absurd is
+    from_host_so w h (Data id frame) items attachment new r found is comes so = so id frame refl
+
+    over_link_so : (w : WorldView) (s p q : ℕ) (item : Item) (items : List Item) (to : SwitchNo) (new : WorldView) (adjacent : peer_of w.plan s p ≡ Switch to q)
+        (there : s < switch_count w.plan.k) (within : p < w.plan.k) (found : out_of w s p ≡ item ∷ items) (r : IsReady w) (is : IsItem item)
+        (comes : ComesAtSwitch switch (record w { out = set w.out (port_index w.plan.k s p) items }) to.0 q item new) →
+        ((id : ℕ) (frame : List ℕ) → item ≡ Data id frame → linked ((control_plane w).view to.0) q frame) →
+        So (control_plane w) (control_plane new) (over_link w s p q item items to new adjacent there within found r is comes)
+    unfolding over_link
+    over_link_so w s p q (Control frame) items to new adjacent there within found r is comes so = tt
+    over_link_so w s p q (Data id frame) items to new adjacent there within found r is comes so = so id frame refl
+
+    by_case_so : (w : WorldView) (happens : Event) (new : WorldView) (none : refusal_of_event w happens ≡ None) (r : IsReady w) (it : Happened switch manager host w happens new) →
+        ComeInSo entered linked w → So (control_plane w) (control_plane new) (by_case w happens new none r it)
+    unfolding by_case from_host frames_left
+    by_case_so w happens new none r (FromHost h item items attachment is head at comes) so =
+        let all : AllByRecursion IsDataItem (item ∷ items) = subst (AllByRecursion IsDataItem) head
+        (all_at (AllByRecursion IsDataItem) w.from_hosts h.0 [] tt r.host_items) in
+        from_host_so w h.0 item items attachment new r at all.0 comes (λ id frame same. so.hosts h.0 attachment id frame items (head ∙ ap (λ i. i ∷ items) same) at)
+    by_case_so w happens new none r (OverLink s p item items t q is head adjacent comes) so =
+        let free = subst (λ e. refusal_of_event w e ≡ None) is none in
+        let at = port_exists w.plan s.0 p (there_is (has_queue w.plan (queue.Port s p)) (is_filled w (queue.Port s p)) free) in
+        over_link_so w s.0 p q item items t new adjacent at.0 at.1 head r (head_is_item w.out (port_index w.plan.k s.0 p) item items head r.port_items) comes
+        (λ id frame same. so.links s.0 p t q id frame items adjacent (head ∙ ap (λ i. i ∷ items) same))
+    by_case_so w happens new none r (OutOfPort s p item items is head adjacent comes) so = tt
+    by_case_so w happens new none r (Reported s told items is head turn) so = tt
+    by_case_so w happens new none r (WasOrdered s says items is head turn) so = tt
+    by_case_so w happens new none r (HasTicked s is turn) so = tt
+    by_case_so w happens new none r (Failed a b link is found fails) so = tt
+    by_case_so w happens new none r (Repaired a b link is found repairs) so = tt
+    by_case_so w happens new none r (Lost s p item items is head loses) so = tt
+    by_case_so w happens new none r (Departed h s p from is at turn) so = tt
+    by_case_so w happens new none r (PlayedFrame h input skip is turn) so = tt
+    by_case_so w happens new none r (Asked h input is turn) so = tt
+
+    pub frames_come_so : (old : WorldView) (happens : Event) (new : WorldView) (is : IsCounted old) (attachments : HostsAtEdges old) (none : refusal old happens ≡ None)
+        (step : WorldStep switch manager host old happens new) → ComeInSo entered linked old →
+        ComeSo entered linked switch manager (control_plane old) (control_plane new) (whole_step old happens new is attachments none step).0
+    unfolding whole_step by_case
+    frames_come_so old happens new is attachments none step so =
+        let s = solid old is in
+        by_case_so (record old { steps = old.steps + 1 }) happens new (same_refusal old happens ∙ event_is_not_refused old happens none)
+        (record {
+          solid = record { is_plan = s.is_plan; many = s.many; queues = s.queues; told = s.told; sizes = s.sizes; shaped = s.shaped };
+          orders = is.formed.from_manager ∙ sym is.formed.plan.ids_many;
+          host_items = is.in_host_queues;
+          port_items = is.in_port_queues;
+          attachments = attachments;
+        }) (happened switch manager host (record old { steps = old.steps + 1 }) happens new step) (record { hosts = so.hosts; links = so.links })

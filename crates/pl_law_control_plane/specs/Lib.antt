@@ -4,3 +4,4 @@ pub mod PlaneSteps
 pub mod HostsAtEdges
 pub mod Homes
 pub mod Ids
+pub mod Incoming

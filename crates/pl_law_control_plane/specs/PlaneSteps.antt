@@ -141,3 +141,10 @@ LosesNoWord switch manager f g step = Unit {0}
 -- a step in which no word is lost
 abbrev pub WholeStep : (switch : SwitchRule) (manager : ManagerRule) (f g : ControlPlane) → Type 0
 WholeStep switch manager f g = (step : PlaneStep switch manager f g) × LosesNoWord switch manager f g step
+
+-- Data frames come in so: this holds of each that a host sends, and that of each that comes over a link, by the view of the switch and the port.
+abbrev pub ComeSo : (SwitchView → ℕ → List ℕ → Type 0) → (SwitchView → ℕ → List ℕ → Type 0) → (switch : SwitchRule) (manager : ManagerRule) (f g : ControlPlane) →
+    PlaneStep switch manager f g → Type 0
+ComeSo host link switch manager f g (Carried t q s port frame mid adjacent bears carries taken turns) = link (f.view s) port frame
+ComeSo host link switch manager f g (Entered s port frame edge within free bears turns) = host (f.view s) port frame
+ComeSo host link switch manager f g step = Unit {0}

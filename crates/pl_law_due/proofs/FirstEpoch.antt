@@ -1,13 +1,14 @@
 -- In the first epoch a step by the rule of one epoch is one by the whole rule.
-use Rattle.std.proofs.Common.{sym, ap, subst, ◌∙◌}
+use Rattle.std.proofs.Common.{ℕ, List, sym, ap, subst, ◌∙◌}
 use Rattle.pl_frame.specs.declared.address.SwitchId.{SwitchId}
 use Rattle.pl_node.specs.declared.messages.ToManager.{ToManager}
 use Rattle.pl_node.specs.SwitchInputs.{SwitchRule}
+use Rattle.pl_node.specs.SwitchViews.{SwitchView}
 use Rattle.pl_manager_rule.specs.ManagerRule.{ManagerStep, manager_rule}
 use Rattle.pl_manager_rule.specs.WholeRule.{IsFirst, whole_rule}
 use Rattle.pl_manager_rule.proofs.Exports.{same_step}
 use Rattle.pl_law_control_plane.specs.ControlPlanes.{ControlPlane}
-use Rattle.pl_law_control_plane.specs.PlaneSteps.{LosesNoWord, ManagerTurns, PlaneStep}
+use Rattle.pl_law_control_plane.specs.PlaneSteps.{ComeSo, LosesNoWord, ManagerTurns, PlaneStep}
 use Rattle.pl_law_control_plane.specs.PlaneSteps.PlaneStep.{Carried, Entered, Heard, Left, Managed, Ordered, Ticked}
 
 whole_turn : (m g : ControlPlane) (id : SwitchId) (told : ToManager) → IsFirst m.manager → ManagerTurns manager_rule m id told g → ManagerTurns whole_rule m id told g
@@ -37,3 +38,16 @@ module _ (switch : SwitchRule) (f g : ControlPlane) (first : IsFirst f.manager) 
   as_whole (Ordered s says mid taken turns) kept = (Ordered s says mid taken turns, tt)
   as_whole (Managed s id told mid there named taken turns) kept =
       (Managed s id told mid there named taken (whole_turn mid g id told (subst IsFirst (sym taken.left.manager) first) turns), tt)
+
+  -- data frames come in as they did
+  module _ (host link : SwitchView → ℕ → List ℕ → Type 0) where
+    pub come_whole : (step : PlaneStep switch manager_rule f g) (kept : LosesNoWord switch manager_rule f g step) → ComeSo host link switch manager_rule f g step →
+        ComeSo host link switch whole_rule f g (as_whole step kept).0
+    unfolding as_whole
+    come_whole (Left left) kept so = tt
+    come_whole (Ticked s turns) kept so = tt
+    come_whole (Heard t q s port frame mid adjacent control taken turns) kept so = tt
+    come_whole (Carried t q s port frame mid adjacent control carries taken turns) kept so = so
+    come_whole (Entered s port frame edge within free control turns) kept so = so
+    come_whole (Ordered s says mid taken turns) kept so = tt
+    come_whole (Managed s id told mid there named taken turns) kept so = tt

@@ -1,7 +1,7 @@
 -- The manager hears a switch: what that is to what is due.
 use mathlib.Core.Path.{fun_ext}
 use Rattle.std.proofs.Common.{◌≡◌, ℕ, ◌==◌, ◌||◌, ◌&&◌, Bool, true, false, cond, not, List, [], ◌∷◌, ◌++◌, Option, Some, None, slice_get, fold, refl, sym, ap, subst, ◌∙◌, inl, inr, append_assoc, append-nil}
-use Rattle.std.specs.List.{AllByRecursion, filter}
+use Rattle.std.specs.List.{AllByRecursion, filter, list_any}
 use Rattle.std.proofs.lemmas.Bool.{cases_Bool, cases_eq, cond-true, cond_both, false≢true}
 use Rattle.std.proofs.lemmas.Grind.{flat_map-append}
 use Rattle.std.proofs.lemmas.Option.{same_Some}
@@ -9,7 +9,7 @@ use Rattle.pl_lemmas.proofs.Exports.{all_append, all_filter}
 use Rattle.pl_frame.specs.declared.address.SwitchId.{SwitchId}
 use Rattle.pl_layouts.specs.Equality.{same_switch}
 use Rattle.pl_layouts.proofs.Exports.{switch_itself}
-use Rattle.pl_wiring.specs.Plan.{IsPlan}
+use Rattle.pl_wiring.specs.Plan.{IsPlan, Plan}
 use Rattle.pl_gathering.specs.Acting.{Done, Step, does_nothing, goes_through, is_void_end, steps, steps_at_end, steps_at_word, then_treats, treats_all}
 use Rattle.pl_gathering.specs.Gathering.{Gathered, Heard, Report, due, hears, hears_end, in_turn, is_among, is_whole, keeps_word, kept_of, with_ended, words}
 use Rattle.pl_gathering.specs.Gathering.Report.{Begin, End, Tells}
@@ -26,11 +26,13 @@ use Rattle.pl_manager_rule.specs.WholeRule.{gathered, manager_steps, viewed, who
 use Rattle.pl_manager_rule.proofs.Exports.{whole_answers}
 use Rattle.pl_law_control_plane.specs.ControlPlanes.{ControlPlane}
 use Rattle.pl_law_control_plane.specs.PlaneSteps.{IsReportTaken, ManagerTurns, ordered, ordered_by}
-use Rattle.pl_law_due.specs.Due.{at_id, due_of, due_plane, queue_of, read, treated}
-use Rattle.pl_law_due.specs.DueSteps.{IsAlike, IsTurned, ManagerPart, Parts, released}
+use Rattle.pl_law_control_plane.proofs.Exports.{any_append}
+use Rattle.pl_law_due.specs.Due.{at_id, due_of, due_plane, is_hello, is_silent, queue_of, read, treated, words_of}
+use Rattle.pl_law_due.specs.DueSteps.{AllReleaseWhere, IsAlike, IsLast, IsTurned, ManagerPart, Parts, released, ReleasesWhere}
 use Rattle.pl_law_due.specs.DueSteps.ManagerPart.{Released, Turned}
 use Rattle.pl_law_due.specs.Gathering.{GathersWell}
 use Rattle.pl_law_due.proofs.Ids.{at_named, at_stranger, ids_apart, named_there, switch_is, there_named}
+use Rattle.pl_law_due.proofs.Plain.{each_other, ordered_other}
 use Rattle.pl_law_due.proofs.Parts.{IsAt, all_treated, at_itself, left_of, plane_at}
 use Rattle.pl_law_due.proofs.Treating.{each_epoch, follows_acts, follows_epoch, follows_view}
 
@@ -223,6 +225,17 @@ module _ (f m g : ControlPlane) (is : IsPlan f.plan) (well : GathersWell f) (s :
       by None is_none = none n is_none
       by (Some t) is_some = some n t is_some
 
+  -- what is so of the last part of what the manager does
+  abbrev pub IsLastNow : ControlPlane → Type 0
+  IsLastNow x = IsLast g x
+
+  whole_now : is_whole (gathered g.manager) ≡ is_whole st.now
+  whole_now = ap (λ v. is_whole (gathered v)) manager_is ∙ (λ i. is_whole (record (gathered (viewed st.now)) { many = many_then i }))
+
+  or_none : (b : Bool) → (b || false) ≡ b
+  or_none true = refl
+  or_none false = refl
+
   -- ---- nothing is treated
   pub record Rests (r : Report ToManager) : Type 0 where
     pub unchanged : IsUnchanged g₀ id queue r (stepped r).now
@@ -231,39 +244,57 @@ module _ (f m g : ControlPlane) (is : IsPlan f.plan) (well : GathersWell f) (s :
   pub treated_same : Rests (as_report told) → treated (viewed st.now) ≡ treated f.manager
   treated_same so = λ i. record (so.unchanged.same i).view { epoch = epoch_is i; begun = []; ended = []; kept = [] }
 
-  rests : Rests (as_report told) → ManagerPart (due_plane f) (due_plane g)
-  rests so = Released [] (record {
-    alike = alike;
-    reports = each_id (λ n. (due_plane g).reports n ≡ (due_plane f).reports n)
-        (λ n t named_t. due_behind n t named_t ∙ ap (λ d. d t) so.unchanged.stays ∙ sym (due_before n t named_t))
-        (λ n none. nothing_behind n none ∙ sym (nothing_before n none));
-    orders = λ n. orders_are n ∙ ap (λ acts. f.orders n ++ ordered f.plan n acts) so.acts;
-    manager = ap treated manager_is ∙ treated_same so;
-  })
+  rests : Rests (as_report told) → (part : ManagerPart (due_plane f) (due_plane g)) × ReleasesWhere IsLastNow (due_plane f) (due_plane g) part
+  rests so = (
+    Released [] (record {
+      alike = alike;
+      reports = each_id (λ n. (due_plane g).reports n ≡ (due_plane f).reports n)
+          (λ n t named_t. due_behind n t named_t ∙ ap (λ d. d t) so.unchanged.stays ∙ sym (due_before n t named_t))
+          (λ n none. nothing_behind n none ∙ sym (nothing_before n none));
+      orders = λ n. orders_are n ∙ ap (λ acts. f.orders n ++ ordered f.plan n acts) so.acts;
+      manager = ap treated manager_is ∙ treated_same so;
+    }),
+    inl refl,
+  )
 
   -- ---- and what follows, once these words were treated
   last_part : (heard : List (Heard ToManager)) → st.now.known ≡ (treats_all treats follows g₀.known heard).known →
       st.acts ≡ (treats_all treats follows g₀.known heard).acts → is_whole st.now ≡ true → (x : ControlPlane) →
-      IsAt (record g { plan = f.plan }) is f.orders m.reports x [] (fold (then_treats treats) start heard) → ManagerPart x (due_plane g)
-  last_part heard known acts whole x at = Released done.known.aged (record {
-    alike = record { plan = plan_is ∙ at.alike.plan; view = at.alike.view; says = at.alike.says; carries = at.alike.carries };
-    reports = each_id (λ n. (due_plane g).reports n ≡ x.reports n)
-        (λ n t named_t.
-        due_behind n t named_t ∙ ap (λ d. d t) (due_whole st.now queue whole) ∙ ap (λ q. words q) (waits_at n t named_t)
-        ∙ sym (at.reports n ∙ ap (λ o. left_of [] o (m.reports n)) named_t))
-        (λ n none. nothing_behind n none ∙ sym (at.reports n ∙ ap (λ o. left_of [] o (m.reports n)) none));
-    orders = λ n.
-        orders_are n ∙ ap (λ xs. f.orders n ++ ordered f.plan n xs) acts
-        ∙ ap (λ os. f.orders n ++ os) (flat_map-append (ordered_by f.plan n) done.acts (follows done.known).acts)
-        ∙ sym (append_assoc (f.orders n) (ordered f.plan n done.acts) (ordered f.plan n (follows done.known).acts))
-        ∙ sym (ap (λ os. os ++ ordered x.plan n (released x.manager done.known.aged).acts) (at.orders n)
-        ∙ ap (λ p. (f.orders n ++ ordered f.plan n done.acts) ++ ordered p n (released x.manager done.known.aged).acts) (sym at.alike.plan)
-        ∙ ap (λ xs. (f.orders n ++ ordered f.plan n done.acts) ++ ordered f.plan n xs) (ap (λ v. (released v done.known.aged).acts) at.manager ∙ follows_acts done.known));
-    manager =
-        ap treated manager_is
-        ∙ (λ i. record (known i).view { epoch = epoch i; begun = []; ended = []; kept = [] })
-        ∙ sym (ap (λ v. (released v done.known.aged).known.view) at.manager ∙ follows_view done.known);
-  })
+      IsAt (record g { plan = f.plan }) is f.orders m.reports x [] (fold (then_treats treats) start heard) →
+      (part : ManagerPart x (due_plane g)) × ReleasesWhere IsLastNow x (due_plane g) part
+  last_part heard known acts whole x at = (
+    Released done.known.aged (record {
+      alike = record { plan = plan_is ∙ at.alike.plan; view = at.alike.view; says = at.alike.says; carries = at.alike.carries };
+      reports = each_id (λ n. (due_plane g).reports n ≡ x.reports n)
+          (λ n t named_t.
+          due_behind n t named_t ∙ ap (λ d. d t) (due_whole st.now queue whole) ∙ ap (λ q. words q) (waits_at n t named_t)
+          ∙ sym (at.reports n ∙ ap (λ o. left_of [] o (m.reports n)) named_t))
+          (λ n none. nothing_behind n none ∙ sym (at.reports n ∙ ap (λ o. left_of [] o (m.reports n)) none));
+      orders = λ n.
+          orders_are n ∙ ap (λ xs. f.orders n ++ ordered f.plan n xs) acts
+          ∙ ap (λ os. f.orders n ++ os) (flat_map-append (ordered_by f.plan n) done.acts (follows done.known).acts)
+          ∙ sym (append_assoc (f.orders n) (ordered f.plan n done.acts) (ordered f.plan n (follows done.known).acts))
+          ∙ sym (ap (λ os. os ++ ordered x.plan n (released x.manager done.known.aged).acts) (at.orders n)
+          ∙ ap (λ p. (f.orders n ++ ordered f.plan n done.acts) ++ ordered p n (released x.manager done.known.aged).acts) (sym at.alike.plan)
+          ∙ ap (λ xs. (f.orders n ++ ordered f.plan n done.acts) ++ ordered f.plan n xs) (ap (λ v. (released v done.known.aged).acts) at.manager ∙ follows_acts done.known));
+      manager =
+          ap treated manager_is
+          ∙ (λ i. record (known i).view { epoch = epoch i; begun = []; ended = []; kept = [] })
+          ∙ sym (ap (λ v. (released v done.known.aged).known.view) at.manager ∙ follows_view done.known);
+    }),
+    inr (record {
+      plan = sym at.alike.plan ∙ sym plan_is;
+      whole = whole_now ∙ whole;
+      silence = λ n silent.
+          let before : is_silent x.orders n ≡ is_silent f.orders n =
+          ap (list_any is_hello) (at.orders n) ∙ any_append is_hello (f.orders n) (ordered f.plan n done.acts)
+          ∙ ap (λ b. is_silent f.orders n || b) (ordered_other f.plan n done.acts (each_other heard start tt)) ∙ or_none (is_silent f.orders n) in
+          ap (list_any is_hello) (orders_are n) ∙ any_append is_hello (f.orders n) (ordered f.plan n st.acts)
+          ∙ ap (λ b. b || list_any is_hello (ordered f.plan n st.acts)) (sym before ∙ silent);
+      reports = λ n t named_t.
+          at.reports n ∙ ap (λ o. left_of [] o (m.reports n)) (ap (λ (p : Plan). slice_get p.ids n) (sym plan_is) ∙ named_t) ∙ ap words_of (sym (turns.reports n));
+    }),
+  )
     where
       done : Done Treating ManagerAct
       done = fold (then_treats treats) start heard
@@ -278,9 +309,9 @@ module _ (f m g : ControlPlane) (is : IsPlan f.plan) (well : GathersWell f) (s :
   no_acts n = sym (append-nil (f.orders n))
 
   -- ---- a word is treated at once
-  word_parts : as_report told ≡ Tells told → is_whole g₀ ≡ true → (mids : List ControlPlane) × Parts mids (due_plane f) (due_plane g)
+  word_parts : as_report told ≡ Tells told → is_whole g₀ ≡ true → (mids : List ControlPlane) × ((parts : Parts mids (due_plane f) (due_plane g)) × AllReleaseWhere IsLastNow mids (due_plane f) (due_plane g) parts)
   word_parts plain whole =
-      all_treated (record g { plan = f.plan }) is f.orders m.reports (due_plane f) (due_plane g) (h ∷ []) start
+      all_treated (record g { plan = f.plan }) is f.orders m.reports IsLastNow (due_plane f) (due_plane g) (h ∷ []) start
       (record {
         alike = base_alike;
         reports = each_id (λ n. (due_plane f).reports n ≡ left_of (h ∷ []) (slice_get f.plan.ids n) (m.reports n))
@@ -320,7 +351,7 @@ module _ (f m g : ControlPlane) (is : IsPlan f.plan) (well : GathersWell f) (s :
       (λ last whole. record { known = refl; acts = refl })
       (λ missing whole. absurd (false≢true (sym missing ∙ whole))))
 
-  end_parts : (n : ℕ) → as_report told ≡ End n → is_whole g₀ ≡ false → is_whole st.now ≡ true → (mids : List ControlPlane) × Parts mids (due_plane f) (due_plane g)
+  end_parts : (n : ℕ) → as_report told ≡ End n → is_whole g₀ ≡ false → is_whole st.now ≡ true → (mids : List ControlPlane) × ((parts : Parts mids (due_plane f) (due_plane g)) × AllReleaseWhere IsLastNow mids (due_plane f) (due_plane g) parts)
   end_parts n ends part whole =
       let goes : Goes st = subst (λ r. Goes (stepped r)) (sym ends) (end_goes n part (subst (λ r. is_whole (stepped r).now ≡ true) ends whole)) in
       let gone : IsGoneThrough treat waits_for_places after_all g₀ id queue n (hears_end treat waits_for_places after_all g₀ id n) =
@@ -329,7 +360,7 @@ module _ (f m g : ControlPlane) (is : IsPlan f.plan) (well : GathersWell f) (s :
       let heard = in_turn waits_for_places g₀.kept in
       let all = kept_named f.plan.ids g₀.begun g₀.kept well.orderly.within well.orderly.gathering.kept in
       let from = plane_at (record g { plan = f.plan }) is f.orders m.reports heard start in
-      let rest = all_treated (record g { plan = f.plan }) is f.orders m.reports from (due_plane g) heard start
+      let rest = all_treated (record g { plan = f.plan }) is f.orders m.reports IsLastNow from (due_plane g) heard start
       (at_itself (record g { plan = f.plan }) is f.orders m.reports heard start)
       (all_append (λ h. has f.plan.ids h.switch ≡ true) (filter (λ h. not (waits_for_places h.word)) g₀.kept) (filter (λ h. waits_for_places h.word) g₀.kept)
       (all_filter (λ h. has f.plan.ids h.switch ≡ true) (λ h. not (waits_for_places h.word)) g₀.kept all)
@@ -337,25 +368,28 @@ module _ (f m g : ControlPlane) (is : IsPlan f.plan) (well : GathersWell f) (s :
       (last_part heard goes.known goes.acts whole) in (
         from ∷ rest.0,
         (
-          Turned (record {
-            alike = record { plan = refl; view = alike.view; says = alike.says; carries = alike.carries };
-            reports = each_id (λ k. IsTurned ((due_plane f).reports k) (left_of heard (slice_get f.plan.ids k) (m.reports k)))
-                (λ k t named_t. record {
-                  first = kept_of t g₀.kept;
-                  others = words (read (m.reports k));
-                  was = due_before k t named_t ∙ ap (λ r. due g₀ (before id r queue) t) ends ∙ ap (λ d. d t) gone.was_due ∙ ap (λ q. kept_of t g₀.kept ++ words q) (waits_at k t named_t);
-                  now = ap (λ o. left_of heard o (m.reports k)) named_t ∙ ap (λ ws. ws ++ words (read (m.reports k))) (turned t);
-                })
-                (λ k none. record {
-                  first = [];
-                  others = [];
-                  was = nothing_before k none;
-                  now = ap (λ o. left_of heard o (m.reports k)) none;
-                });
-            orders = λ k. sym (no_acts k);
-            manager = refl;
-          }),
-          rest.1,
+          (
+            Turned (record {
+              alike = record { plan = refl; view = alike.view; says = alike.says; carries = alike.carries };
+              reports = each_id (λ k. IsTurned ((due_plane f).reports k) (left_of heard (slice_get f.plan.ids k) (m.reports k)))
+                  (λ k t named_t. record {
+                    first = kept_of t g₀.kept;
+                    others = words (read (m.reports k));
+                    was = due_before k t named_t ∙ ap (λ r. due g₀ (before id r queue) t) ends ∙ ap (λ d. d t) gone.was_due ∙ ap (λ q. kept_of t g₀.kept ++ words q) (waits_at k t named_t);
+                    now = ap (λ o. left_of heard o (m.reports k)) named_t ∙ ap (λ ws. ws ++ words (read (m.reports k))) (turned t);
+                  })
+                  (λ k none. record {
+                    first = [];
+                    others = [];
+                    was = nothing_before k none;
+                    now = ap (λ o. left_of heard o (m.reports k)) none;
+                  });
+              orders = λ k. sym (no_acts k);
+              manager = refl;
+            }),
+            rest.1.0,
+          ),
+          (tt, rest.1.1),
         ),
       )
     where
@@ -406,7 +440,7 @@ module _ (f m g : ControlPlane) (is : IsPlan f.plan) (well : GathersWell f) (s :
     acts = does_nothing_yet treats waits_for_places follows g₀ id (as_report told) part still;
   }
 
-  pub hearing_parts : (mids : List ControlPlane) × Parts mids (due_plane f) (due_plane g)
+  pub hearing_parts : (mids : List ControlPlane) × ((parts : Parts mids (due_plane f) (due_plane g)) × AllReleaseWhere IsLastNow mids (due_plane f) (due_plane g) parts)
   hearing_parts = elim (cases_Bool (is_whole g₀)) [
     | inl whole ↦ at_once whole (kind told)
     | inr part ↦ elim (cases_Bool (is_whole st.now)) [
@@ -415,12 +449,12 @@ module _ (f m g : ControlPlane) (is : IsPlan f.plan) (well : GathersWell f) (s :
     ]
   ]
     where
-      at_once : is_whole g₀ ≡ true → Kind told → (mids : List ControlPlane) × Parts mids (due_plane f) (due_plane g)
+      at_once : is_whole g₀ ≡ true → Kind told → (mids : List ControlPlane) × ((parts : Parts mids (due_plane f) (due_plane g)) × AllReleaseWhere IsLastNow mids (due_plane f) (due_plane g) parts)
       at_once whole (IsPlain plain) = word_parts plain whole
       at_once whole (IsBegin n begins) = ([], rests (subst Rests (sym begins) (begin_rests n whole)))
       at_once whole (IsEnd n ends) = ([], rests (subst Rests (sym ends) (end_rests n whole)))
 
-      at_end : is_whole g₀ ≡ false → is_whole st.now ≡ true → Kind told → (mids : List ControlPlane) × Parts mids (due_plane f) (due_plane g)
+      at_end : is_whole g₀ ≡ false → is_whole st.now ≡ true → Kind told → (mids : List ControlPlane) × ((parts : Parts mids (due_plane f) (due_plane g)) × AllReleaseWhere IsLastNow mids (due_plane f) (due_plane g) parts)
       at_end part last (IsPlain plain) = absurd (false≢true (sym (subst (λ r. is_whole (stepped r).now ≡ false) (sym plain) (word_still told part)) ∙ last))
       at_end part last (IsBegin n begins) = absurd (false≢true (sym (subst (λ r. is_whole (stepped r).now ≡ false) (sym begins) (begin_still n part)) ∙ last))
       at_end part last (IsEnd n ends) = end_parts n ends part last

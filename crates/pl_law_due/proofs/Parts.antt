@@ -19,7 +19,7 @@ use Rattle.pl_manager_rule.specs.Treating.{Treating, treats}
 use Rattle.pl_law_control_plane.specs.ControlPlanes.{ControlPlane}
 use Rattle.pl_law_control_plane.specs.PlaneSteps.{IsReportTaken, LeftOver, ManagerTurns, ordered, ordered_by}
 use Rattle.pl_law_due.specs.Due.{read, treated}
-use Rattle.pl_law_due.specs.DueSteps.{IsAlike, ManagerPart, Parts, treats_one}
+use Rattle.pl_law_due.specs.DueSteps.{AllReleaseWhere, IsAlike, ManagerPart, Parts, ReleasesWhere, treats_one}
 use Rattle.pl_law_due.specs.DueSteps.ManagerPart.{Treated}
 use Rattle.pl_law_due.proofs.Ids.{ids_apart, switch_is, there_named}
 use Rattle.pl_law_due.proofs.Treating.{alike_treated}
@@ -119,12 +119,14 @@ module _ (b : ControlPlane) (is : IsPlan b.plan) (waiting : ℕ → List ToSwitc
     one_treated = Treated s h.switch h.word (plane_at rest done) within (ap (λ (p : Plan). slice_get p.ids s) (sym at.alike.plan) ∙ named) taken turns
 
   -- all of them, and then the last part
-  pub all_treated : (f last : ControlPlane) (heard : List (Heard ToManager)) (done : Done Treating ManagerAct) → IsAt f heard done →
+  pub all_treated : (P : ControlPlane → Type 0) (f last : ControlPlane) (heard : List (Heard ToManager)) (done : Done Treating ManagerAct) → IsAt f heard done →
       AllByRecursion (λ h. has b.plan.ids h.switch ≡ true) heard →
-      ((m : ControlPlane) → IsAt m [] (fold (then_treats treats) done heard) → ManagerPart m last) → (mids : List ControlPlane) × Parts mids f last
-  all_treated f last [] done at named final = ([], final f at)
-  all_treated f last (h ∷ heard) done at named final =
+      ((m : ControlPlane) → IsAt m [] (fold (then_treats treats) done heard) → (part : ManagerPart m last) × ReleasesWhere P m last part) →
+      (mids : List ControlPlane) × ((parts : Parts mids f last) × AllReleaseWhere P mids f last parts)
+  unfolding one_treated
+  all_treated P f last [] done at named final = ([], final f at)
+  all_treated P f last (h ∷ heard) done at named final =
       let there = there_named b.plan.ids h.switch named.0 in
       let next = plane_at heard (then_treats treats done h) in
-      let more = all_treated next last heard (then_treats treats done h) (at_itself heard (then_treats treats done h)) named.1 final in
-      (next ∷ more.0, (one_treated f h heard done at there.0 there.1, more.1))
+      let more = all_treated P next last heard (then_treats treats done h) (at_itself heard (then_treats treats done h)) named.1 final in
+      (next ∷ more.0, ((one_treated f h heard done at there.0 there.1, more.1.0), (tt, more.1.1)))

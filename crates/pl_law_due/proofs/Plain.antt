@@ -75,7 +75,7 @@ heard_other before s told =
     all_mapped (λ t. Say t (say.Tree group (part_in after group t))) (changed_of_group before after group) (λ t. refl)))
 
 -- ---- words that are treated, and what follows
-word_other : (t : Treating) (s : SwitchId) (says : ToManager) → AllByRecursion IsOther (treats_word t s says).acts
+pub word_other : (t : Treating) (s : SwitchId) (says : ToManager) → AllByRecursion IsOther (treats_word t s says).acts
 word_other t s (tell.Aged x number) = tt
 word_other t s (tell.Trapped a b c) = tt
 word_other t s (tell.Place place) = heard_other t.view s (tell.Place place)
@@ -87,13 +87,13 @@ word_other t s (tell.End n) = heard_other t.view s (tell.End n)
 word_other t s (tell.Query a b c) = heard_other t.view s (tell.Query a b c)
 word_other t s (tell.Members group any) = heard_other t.view s (tell.Members group any)
 
-each_other : (heard : List (Heard ToManager)) (done : Done Treating ManagerAct) → AllByRecursion IsOther done.acts →
+pub each_other : (heard : List (Heard ToManager)) (done : Done Treating ManagerAct) → AllByRecursion IsOther done.acts →
     AllByRecursion IsOther (fold (then_treats treats) done heard).acts
 each_other [] done all = all
 each_other (h ∷ heard) done all =
     each_other heard (then_treats treats done h) (all_append IsOther done.acts (treats done.known h).acts all (word_other done.known h.switch h.word))
 
-releases_other : (aged : List Pmac) (step : ManagerStep) → AllByRecursion IsOther step.acts → AllByRecursion IsOther (fold then_releases step aged).acts
+pub releases_other : (aged : List Pmac) (step : ManagerStep) → AllByRecursion IsOther step.acts → AllByRecursion IsOther (fold then_releases step aged).acts
 releases_other [] step all = all
 releases_other (x ∷ aged) step all =
     releases_other aged (then_releases step x)

@@ -15,14 +15,15 @@ use Rattle.pl_node.specs.declared.messages.ToSwitch.TheVariants as say
 use Rattle.pl_node.specs.ManagerViews.{ManagerView}
 use Rattle.pl_node.specs.SwitchInputs.{SwitchInput}
 use Rattle.pl_node.specs.SwitchInputs.SwitchInput.{Comes, Says, Tick}
+use Rattle.pl_node.specs.SwitchViews.{SwitchView}
 use Rattle.pl_switch_rule.specs.Reporting.{report, report_for}
 use Rattle.pl_switch_rule.specs.SwitchRule.{Loose, switch_step}
 use Rattle.pl_manager_rule.specs.WholeRule.{gathered, whole_rule}
 use Rattle.pl_law_control_plane.specs.ControlPlanes.{ControlPlane, tells}
-use Rattle.pl_law_control_plane.specs.PlaneSteps.{AreAsBefore, IsLeft, IsOrderTaken, LosesNoWord, PlaneStep, SwitchTurns}
+use Rattle.pl_law_control_plane.specs.PlaneSteps.{AreAsBefore, ComeSo, IsLeft, IsOrderTaken, LosesNoWord, PlaneStep, SwitchTurns}
 use Rattle.pl_law_control_plane.specs.PlaneSteps.PlaneStep.{Carried, Entered, Heard, Left, Managed, Ordered, Ticked}
 use Rattle.pl_law_due.specs.Due.{due_of, due_plane, is_hello, is_silent, read, words_of}
-use Rattle.pl_law_due.specs.DueSteps.{DueStep, IsSifted}
+use Rattle.pl_law_due.specs.DueSteps.{ComeSoDue, DueReleasesWhere, DueStep, IsLast, IsSifted}
 use Rattle.pl_law_due.specs.DueSteps.DueStep.{Managed as ManagedBy, Stepped}
 use Rattle.pl_law_due.specs.Gathering.{GathersBy, GathersWell, IsHelloAlone}
 use Rattle.pl_law_due.proofs.Beginnings.{each_tells, frames_tell_none, ticks_begin_none}
@@ -183,6 +184,7 @@ module _ (f g : ControlPlane) (is : IsPlan f.plan) (well : GathersWell f) where
   record Both : Type 0 where
     gathers : GathersWell g
     due : DueStep Loose (due_plane f) (due_plane g)
+    releases : DueReleasesWhere (λ x. IsLast g x) Loose (due_plane f) (due_plane g) due
 
   left_both : (left : IsLeft f g) → AreAsBefore f g → Both
   left_both left kept =
@@ -198,6 +200,7 @@ module _ (f g : ControlPlane) (is : IsPlan f.plan) (well : GathersWell f) where
           orders = λ t. refl;
           manager = refl;
         });
+        releases = tt;
       }
 
   both : (step : PlaneStep Loose whole_rule f g) → LosesNoWord Loose whole_rule f g step → Both
@@ -209,6 +212,7 @@ module _ (f g : ControlPlane) (is : IsPlan f.plan) (well : GathersWell f) where
             (frame_alone f s Tick turns refl refl (λ t. refl) (λ t differ. refl) refl (ticks_begin_none turns.ruled.choose (f.view s) f.manager.epoch));
         due = Stepped (told_plane f g s (tells turns.acts)) (Ticked s (turns_due Loose f g s Tick turns), tt)
             (turn_sifted f s Tick turns refl refl (λ t. refl) (λ t differ. refl) may);
+        releases = tt;
       }
   both (Heard t q s port frame mid adjacent control taken turns) kept =
       let none = frames_tell_none turns.ruled.choose (mid.view s) f.manager.epoch port frame in
@@ -221,6 +225,7 @@ module _ (f g : ControlPlane) (is : IsPlan f.plan) (well : GathersWell f) where
           Heard t q s port frame (due_plane mid) adjacent control (message_due f mid t q _ taken) (turns_due Loose mid g s (Comes port frame) turns),
           tt,
         ) (turn_sifted mid s (Comes port frame) turns same.plan same.manager taken.reports (λ u differ. taken.orders u) may);
+        releases = tt;
       }
   both (Carried t q s port frame mid adjacent control carries taken turns) kept =
       let none = frames_tell_none turns.ruled.choose (mid.view s) f.manager.epoch port frame in
@@ -233,6 +238,7 @@ module _ (f g : ControlPlane) (is : IsPlan f.plan) (well : GathersWell f) where
           Carried t q s port frame (due_plane mid) adjacent control carries (message_due f mid t q [] taken) (turns_due Loose mid g s (Comes port frame) turns),
           tt,
         ) (turn_sifted mid s (Comes port frame) turns same.plan same.manager taken.reports (λ u differ. taken.orders u) may);
+        releases = tt;
       }
   both (Entered s port frame edge within free control turns) kept =
       let none = frames_tell_none turns.ruled.choose (f.view s) f.manager.epoch port frame in
@@ -242,6 +248,7 @@ module _ (f g : ControlPlane) (is : IsPlan f.plan) (well : GathersWell f) where
             (frame_alone f s (Comes port frame) turns refl refl (λ t. refl) (λ t differ. refl) refl none);
         due = Stepped (told_plane f g s (tells turns.acts)) (Entered s port frame edge within free control (turns_due Loose f g s (Comes port frame) turns), tt)
             (turn_sifted f s (Comes port frame) turns refl refl (λ t. refl) (λ t differ. refl) may);
+        releases = tt;
       }
   both (Ordered s says mid taken turns) kept =
       let same = taken.left in
@@ -250,12 +257,14 @@ module _ (f g : ControlPlane) (is : IsPlan f.plan) (well : GathersWell f) where
         gathers = turn_well mid s (Says says) turns same.plan same.manager taken.reports taken.others may (order_alone mid s says taken turns);
         due = Stepped (told_plane mid g s (tells turns.acts)) (Ordered s says (due_plane mid) (order_due f mid s says taken) (turns_due Loose mid g s (Says says) turns), tt)
             (turn_sifted mid s (Says says) turns same.plan same.manager taken.reports taken.others may);
+        releases = tt;
       }
   both (Managed s id told mid there named taken turns) kept =
       let parts = hearing_parts f mid g is well s id told named taken turns in
       record {
         gathers = heard_well f mid g is well s id told named taken turns;
-        due = ManagedBy parts.0 parts.1;
+        due = ManagedBy parts.0 parts.1.0;
+        releases = parts.1.1;
       }
 
   pub step_due : (step : PlaneStep Loose whole_rule f g) → LosesNoWord Loose whole_rule f g step → DueStep Loose (due_plane f) (due_plane g)
@@ -263,3 +272,22 @@ module _ (f g : ControlPlane) (is : IsPlan f.plan) (well : GathersWell f) where
 
   pub step_gathers : (step : PlaneStep Loose whole_rule f g) → LosesNoWord Loose whole_rule f g step → GathersWell g
   step_gathers step kept = (both step kept).gathers
+
+  -- addresses are released only in the last part
+  pub step_releases : (step : PlaneStep Loose whole_rule f g) (kept : LosesNoWord Loose whole_rule f g step) →
+      DueReleasesWhere (λ x. IsLast g x) Loose (due_plane f) (due_plane g) (step_due step kept)
+  unfolding step_due
+  step_releases step kept = (both step kept).releases
+
+  -- data frames come in as they did
+  module _ (host link : SwitchView → ℕ → List ℕ → Type 0) where
+    pub come_due : (step : PlaneStep Loose whole_rule f g) (kept : LosesNoWord Loose whole_rule f g step) → ComeSo host link Loose whole_rule f g step →
+        ComeSoDue host link Loose (due_plane f) (due_plane g) (step_due step kept)
+    unfolding step_due both left_both
+    come_due (Left left) kept so = tt
+    come_due (Ticked s turns) kept so = tt
+    come_due (Heard t q s port frame mid adjacent control taken turns) kept so = tt
+    come_due (Carried t q s port frame mid adjacent control carries taken turns) kept so = so
+    come_due (Entered s port frame edge within free control turns) kept so = so
+    come_due (Ordered s says mid taken turns) kept so = tt
+    come_due (Managed s i says mid there at taken turns) kept so = tt

@@ -1,5 +1,5 @@
 -- What a step of the control plane is to what is due: it is one or more steps of the control plane again, in which the manager hears what it treats.
-use Rattle.std.specs.Prelude.{◌≡◌, ℕ, ◌+◌, ◌<◌, if◌then◌else◌, not, true, List, [], ◌∷◌, ◌++◌, Some, slice_get}
+use Rattle.std.specs.Prelude.{◌≡◌, ◌⊎◌, ℕ, ◌+◌, ◌<◌, if◌then◌else◌, not, true, List, [], ◌∷◌, ◌++◌, Some, slice_get}
 use Rattle.std.specs.List.{filter}
 use Rattle.pl_frame.specs.declared.address.SwitchId.{SwitchId}
 use Rattle.pl_pmac.specs.declared.pmac.Pmac.{Pmac}
@@ -10,10 +10,13 @@ use Rattle.pl_node.specs.declared.messages.ToSwitch.TheVariants.{Hello}
 use Rattle.pl_node.specs.ManagerDuties.{ManagerRule}
 use Rattle.pl_node.specs.ManagerViews.{ManagerView, restarted_manager}
 use Rattle.pl_node.specs.SwitchInputs.{SwitchRule}
+use Rattle.pl_node.specs.SwitchViews.{SwitchView}
 use Rattle.pl_gathering.specs.Acting.{Done}
+use Rattle.pl_gathering.specs.Gathering.{is_whole}
 use Rattle.pl_manager_rule.specs.Treating.{Treating, at_rest, follows, treats, waits_for_places}
+use Rattle.pl_manager_rule.specs.WholeRule.{gathered}
 use Rattle.pl_law_control_plane.specs.ControlPlanes.{ControlPlane}
-use Rattle.pl_law_control_plane.specs.PlaneSteps.{IsReportTaken, ManagerTurns, WholeStep, ordered}
+use Rattle.pl_law_control_plane.specs.PlaneSteps.{ComeSo, IsReportTaken, ManagerTurns, WholeStep, ordered}
 use Rattle.pl_law_due.specs.Due.{is_silent, words_of}
 
 -- the rule of the manager for one word that it treats
@@ -83,3 +86,29 @@ pub record Restarts (f g : ControlPlane) : Type 0 where
 pub data DueStep (switch : SwitchRule) (f g : ControlPlane) : Type 0 where
   Stepped : (told : ControlPlane) → WholeStep switch treats_one f told → IsSifted told g → DueStep switch f g
   Managed : (mids : List ControlPlane) → Parts mids f g → DueStep switch f g
+
+-- data frames come in so, where a switch steps
+abbrev pub ComeSoDue : (SwitchView → ℕ → List ℕ → Type 0) → (SwitchView → ℕ → List ℕ → Type 0) → (switch : SwitchRule) (f g : ControlPlane) → DueStep switch f g → Type 0
+ComeSoDue host link switch f g (Stepped told step sifted) = ComeSo host link switch treats_one f told step.0
+ComeSoDue host link switch f g (Managed mids parts) = Unit {0}
+
+-- Addresses are released only where this holds.
+abbrev pub ReleasesWhere : (ControlPlane → Type 0) → (f g : ControlPlane) → ManagerPart f g → Type 0
+ReleasesWhere P f g (Treated s id told mid within named taken turns) = Unit {0}
+ReleasesWhere P f g (Turned turns) = Unit {0}
+ReleasesWhere P f g (Released aged releases) = (aged ≡ []) ⊎ P f
+
+abbrev pub AllReleaseWhere : (ControlPlane → Type 0) → (mids : List ControlPlane) (f g : ControlPlane) → Parts mids f g → Type 0
+AllReleaseWhere P [] f g part = ReleasesWhere P f g part
+AllReleaseWhere P (mid ∷ mids) f g parts = ReleasesWhere P f mid parts.0 × AllReleaseWhere P mids mid g parts.1
+
+abbrev pub DueReleasesWhere : (ControlPlane → Type 0) → (switch : SwitchRule) (f g : ControlPlane) → DueStep switch f g → Type 0
+DueReleasesWhere P switch f g (Stepped told step sifted) = Unit {0}
+DueReleasesWhere P switch f g (Managed mids parts) = AllReleaseWhere P mids f g parts
+
+-- to a plane of switches and the manager the last part of what the manager does: no report is missing then, and what waits there is all that is due
+pub record IsLast (g x : ControlPlane) : Type 0 where
+  pub plan : x.plan ≡ g.plan
+  pub whole : is_whole (gathered g.manager) ≡ true
+  pub silence : (t : ℕ) → is_silent x.orders t ≡ true → is_silent g.orders t ≡ true
+  pub reports : (t : ℕ) (i : SwitchId) → slice_get g.plan.ids t ≡ Some i → x.reports t ≡ words_of (g.reports t)

@@ -4,5 +4,6 @@ pub mod KeepingControl
 pub mod LawfulRuns
 pub mod ControlInRuns
 pub mod DueInWorlds
+pub mod AddressesByEpochs
 pub mod ExecutionsKeepInvariant
 pub mod Exports

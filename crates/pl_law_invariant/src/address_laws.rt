@@ -14,6 +14,7 @@ ghost use Rattle.pl_law_addresses.specs.GrantedOnce.{StayUnlessFreed, times_free
 ghost use Rattle.pl_law_addresses.specs.InOrder.{AddressesAreInOrder};
 ghost use Rattle.pl_law_addresses.specs.Standing.{StandsForNothing};
 ghost use Rattle.pl_law_invariant.specs.ControlInvariant.{ControlInvariant};
+ghost use Rattle.pl_law_epochs.specs.InOrder.{IsAddressed};
 
 use pl_node::HostLogic;
 
@@ -64,4 +65,10 @@ pub fn what_was_granted_stays_granted_in_every_run<H: HostLogic>()
     ensures { (plan : Plan) (limits : Limits) (moments more : List Moment) (old new : WorldView) → CanBegin plan →
         WorldRun Loose manager_rule H.rule (booted plan limits) moments old → WorldRun Loose manager_rule H.rule old more new →
         StayUnlessFreed old.switches old.journal new.switches new.journal }
+{}
+
+/// In every run addresses are in order by what the manager is going to treat, as they are in each of its epochs, and each trap that
+/// stands leads to an address of the same host that is somebody's.
+pub fn addresses_are_in_order_by_what_is_due_in_every_run<H: HostLogic>()
+    ensures { InEveryRun Loose manager_rule H.rule IsAddressed }
 {}

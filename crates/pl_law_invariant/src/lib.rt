@@ -1,12 +1,13 @@
-//! What holds in every run: places are true, votes are in order, numbers of pods are those that were given,
-//! and addresses are in order; so edge switches of a pod never have one position, pods never one number, and
-//! no address is granted again before it was freed.
+//! What holds in every run: places are true, and votes, numbers of pods and addresses are in order; so edge
+//! switches of a pod never have one position, pods never one number, and no address is granted again before
+//! it was freed.
 //!
 //! What holds in every run is kept by whatever lawful logic does: by any run from any world where it holds, so
 //! by events in order, a sweep, rounds, a settling and drawn steps; and it holds at the beginning.
 #![tactic(auto)]
 
 pub use address_laws::{
+    addresses_are_in_order_by_what_is_due_in_every_run,
     addresses_are_in_order_in_every_run_from_boot,
     no_address_is_granted_again_before_it_was_freed_in_any_run,
     no_address_is_granted_while_anything_stands_for_it_in_any_run,

@@ -1,5 +1,5 @@
 -- Traps lead to newer addresses, by what the journal says.
-use Rattle.std.proofs.Common.{◌≡◌, ℕ, true, reverse, Some, option_map, slice_get, refl, sym, ap, ◌∙◌, le_refl}
+use Rattle.std.proofs.Common.{◌≡◌, ℕ, true, reverse, Some, option_map, slice_get, sym, ap, ◌∙◌, le_refl}
 use Rattle.std.proofs.lemmas.Option.{same_Some}
 use Rattle.pl_frame.specs.declared.address.Mac.{Mac}
 use Rattle.pl_pmac.specs.declared.pmac.Pmac.{Pmac}

@@ -1,6 +1,6 @@
 -- In every run pods and positions of placed edge switches are numbers of one byte, and the journal says of addresses what the switches granted
 -- and the manager registered.
-use Rattle.std.proofs.Common.{◌≡◌, ◌<◌, ℕ, ◌&&◌, List, [], ◌∷◌, ◌++◌, zero, Some, None, refl, sym, ap, subst, ◌∙◌, arith}
+use Rattle.std.proofs.Common.{◌≡◌, ℕ, ◌&&◌, List, [], ◌∷◌, ◌++◌, Some, None, refl, sym, ap, subst, ◌∙◌, arith}
 use Rattle.std.proofs.lemmas.Bool.{and_parts}
 use Rattle.std.proofs.lemmas.Option.{get_or_from_slice_get}
 use Rattle.pl_layouts.specs.Placement.{is_known}
@@ -32,7 +32,7 @@ use Rattle.pl_law_invariant.specs.ControlInvariant.{ControlInvariant}
 use Rattle.pl_law_invariant.proofs.Exports.{grounded, run_keeps_all}
 use Rattle.pl_law_placing.proofs.Exports.{seen_later, step_seen}
 use Rattle.pl_law_pods.proofs.Exports.{known_below, numbers_told}
-use Rattle.pl_law_ledger.specs.Ledgers.{AreInBounds, IsLedger, ledger}
+use Rattle.pl_law_ledger.specs.Ledgers.{AreInBounds, IsLedger}
 use Rattle.pl_law_ledger.proofs.LedgerAtFirst.{boot_ledger, step_ledger}
 use Rattle.pl_law_ledger.proofs.GrantsWritten.{one_quiet, parts_of}
 use Rattle.pl_law_ledger.proofs.TurnsKeepLedger.{IsIn}

@@ -128,7 +128,8 @@ module _ (manager : ManagerRule) (f g : ControlPlane) (is : IsPlan f.plan) (plac
 
   differ_left : (m : ControlPlane) → IsLeft f m → FixedAreApart f.plan m.view
   differ_left m left = λ pod i j x s t a b c d.
-      apart pod i j x s t a b (ap (λ (v : SwitchView). v.place.position) (sym (left.view s)) ∙ c) (ap (λ (v : SwitchView). v.place.position) (sym (left.view t)) ∙ d)
+      apart pod i j x s t a b (ap (λ (v : SwitchView). v.place.position) (sym (left.view s)) ∙ c)
+      (ap (λ (v : SwitchView). v.place.position) (sym (left.view t)) ∙ d)
 
   count_same : (m : ControlPlane) (s : ℕ) → m.plan ≡ f.plan → s < switch_count m.plan.k → s < switch_count f.plan.k
   count_same m s same there = subst (λ (p : Plan). s < switch_count p.k) same there
@@ -183,7 +184,8 @@ module _ (manager : ManagerRule) (f g : ControlPlane) (is : IsPlan f.plan) (plac
 
   data_acts : (m : ControlPlane) (s port : ℕ) (frame : List ℕ) → IsLeft f m → ((t : ℕ) → m.reports t ≡ f.reports t) → ((t : ℕ) → m.orders t ≡ f.orders t) →
       is_control frame ≡ false → (turns : SwitchTurns Loose m s (Comes port frame) g) →
-      IsGoodTurn f.plan m s (data_comes turns.ruled.choose (m.view s) port frame).view (data_comes turns.ruled.choose (m.view s) port frame).acts → SwitchActs f g
+      IsGoodTurn f.plan m s (data_comes turns.ruled.choose (m.view s) port frame).view (data_comes turns.ruled.choose (m.view s) port frame).acts →
+      SwitchActs f g
   data_acts m s port frame left reports orders data_frame turns good =
       let view = m.view s in
       let comes = data_comes turns.ruled.choose view port frame in
@@ -296,7 +298,8 @@ module _ (manager : ManagerRule) (f g : ControlPlane) (is : IsPlan f.plan) (plac
           (knows_aside (m.view s) (own_level m s (taken.left.view s)) (λ n. ⊥) (switch_step turns.ruled.choose (m.view s) (Says says))
           (aside_manager turns.ruled.choose (m.view s) says other)))
 
-      told : (n : ℕ) → KeepsOrTakes (f.view s).place (g.view s).place (λ x. n ≡ x) → KeepsOrTakes (f.view s).place (g.view s).place (λ x. Says (say.Pod n) ≡ Says (say.Pod x))
+      told : (n : ℕ) → KeepsOrTakes (f.view s).place (g.view s).place (λ x. n ≡ x) →
+          KeepsOrTakes (f.view s).place (g.view s).place (λ x. Says (say.Pod n) ≡ Says (say.Pod x))
       told n (inl same) = inl same
       told n (inr took) = inr (took.0, took.1, took.2, took.3, ap (λ x. Says (say.Pod x)) took.4)
 

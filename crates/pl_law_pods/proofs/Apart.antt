@@ -23,7 +23,8 @@ place_taken : (places : List (SwitchId × Place)) (s : SwitchId) (n : ℕ) → (
 place_taken [] s n is = absurd (none-some n is)
 place_taken (p ∷ places) s n is = by (λ rest. place_taken places s n rest) (is_eq (id_cmp s p.0)) is
   where
-    by : ((unwrap_or (value_at id_cmp places s) nowhere).pod ≡ Some n → list_any (λ (q : SwitchId × Place). is_known q.1.pod n) places ≡ true) → (b : Bool) → (unwrap_or (cond b (Some p.1) (value_at id_cmp places s)) nowhere).pod ≡ Some n →
+    by : ((unwrap_or (value_at id_cmp places s) nowhere).pod ≡ Some n → list_any (λ (q : SwitchId × Place). is_known q.1.pod n) places ≡ true) → (b : Bool) →
+        (unwrap_or (cond b (Some p.1) (value_at id_cmp places s)) nowhere).pod ≡ Some n →
         (is_known p.1.pod n || list_any (λ (q : SwitchId × Place). is_known q.1.pod n) places) ≡ true
     by further true own = or_left (is_known p.1.pod n) (list_any (λ (q : SwitchId × Place). is_known q.1.pod n) places)
         (ap (λ (o : Option ℕ). is_known o n) own ∙ eq-eqb n n refl)
@@ -58,7 +59,8 @@ module _ (id : ℕ → SwitchId) (known : ℕ → Option ℕ) (told : Told) (pod
       | inr before ↦ apart.both s n b knows before
     ]
 
-    pub asked_apart : (list_any (λ (g : PodGiven). same_switch g.switch asker) pods ≡ false → KnowsNone id known asker) → NumbersApart id known told (with_asker told pods asker)
+    pub asked_apart : (list_any (λ (g : PodGiven). same_switch g.switch asker) pods ≡ false → KnowsNone id known asker) →
+        NumbersApart id known told (with_asker told pods asker)
     asked_apart none = record {
       one = cond_both (list_any (λ (g : PodGiven). same_switch g.switch asker) pods) pods (new ∷ pods)
           (λ gs. (s n m : ℕ) → known s ≡ Some n → pod_given gs (id s) ≡ Some m → n ≡ m) (λ again. apart.one) (λ first. one_next (none first));

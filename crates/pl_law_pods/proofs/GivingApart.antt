@@ -37,7 +37,8 @@ in_range a (suc n) p low high = elim (cases_eq a p) [
   | inl same ↦ ap (λ b. b || list_any (λ r. r == p) (range_with_len (a + 1) n)) (eq-eqb a p same)
   | inr other ↦ elim (cases_Bool (a == p)) [
     | inl is ↦ absurd (other (eqb-true a p is))
-    | inr not_here ↦ ap (λ b. b || list_any (λ r. r == p) (range_with_len (a + 1) n)) not_here ∙ in_range (a + 1) n p (above a p low other) (omega (arith, high))
+    | inr not_here ↦ ap (λ b. b || list_any (λ r. r == p) (range_with_len (a + 1) n)) not_here
+        ∙ in_range (a + 1) n p (above a p low other) (omega (arith, high))
   ]
 ]
   where
@@ -45,18 +46,21 @@ in_range a (suc n) p low high = elim (cases_eq a p) [
     above x y le ne = elim (cases_lt x y) [ inl lt ↦ omega (arith, lt) | inr ge ↦ absurd (ne (omega (arith, le, ge))) ]
 
 -- one that was given a number is another switch than one that stands before it
-apart_from : (g : PodGiven) (pods : List PodGiven) (id : SwitchId) → AllByRecursion (λ t. same_switch g.switch t ≡ false) (map (λ (q : PodGiven). q.switch) pods) → (n : ℕ) →
+apart_from : (g : PodGiven) (pods : List PodGiven) (id : SwitchId) →
+    AllByRecursion (λ t. same_switch g.switch t ≡ false) (map (λ (q : PodGiven). q.switch) pods) → (n : ℕ) →
     pod_given pods id ≡ Some n → same_switch g.switch id ≡ false
 apart_from g [] id none n given = absurd (none-some n given)
 apart_from g (q ∷ pods) id none n given = by (λ found. apart_from g pods id none.1 n found) (same_switch q.switch id) refl given
   where
     by : (pod_given pods id ≡ Some n → same_switch g.switch id ≡ false) → (b : Bool) → same_switch q.switch id ≡ b →
-        option_map (λ (r : PodGiven). r.pod) (cond b (Some q) (find (λ (r : PodGiven). same_switch r.switch id) pods)) ≡ Some n → same_switch g.switch id ≡ false
+        option_map (λ (r : PodGiven). r.pod) (cond b (Some q) (find (λ (r : PodGiven). same_switch r.switch id) pods)) ≡ Some n →
+        same_switch g.switch id ≡ false
     by rest true same found = subst (λ t. same_switch g.switch t ≡ false) (same_id q.switch id (eqb-true q.switch.0 id.0 same)) none.0
     by rest false other found = rest found
 
 -- of one that was given none
-none_same : (pods : List PodGiven) (id : SwitchId) → pod_given pods id ≡ None → AllByRecursion (λ t. same_switch id t ≡ false) (map (λ (q : PodGiven). q.switch) pods)
+none_same : (pods : List PodGiven) (id : SwitchId) → pod_given pods id ≡ None →
+    AllByRecursion (λ t. same_switch id t ≡ false) (map (λ (q : PodGiven). q.switch) pods)
 none_same [] id none = tt
 none_same (q ∷ pods) id none = by (λ rest. none_same pods id rest) (same_switch q.switch id) refl none
   where
@@ -66,7 +70,8 @@ none_same (q ∷ pods) id none = by (λ rest. none_same pods id rest) (same_swit
       | inr other ↦ other
     ]
 
-    by : (pod_given pods id ≡ None → AllByRecursion (λ t. same_switch id t ≡ false) (map (λ (r : PodGiven). r.switch) pods)) → (b : Bool) → same_switch q.switch id ≡ b →
+    by : (pod_given pods id ≡ None → AllByRecursion (λ t. same_switch id t ≡ false) (map (λ (r : PodGiven). r.switch) pods)) → (b : Bool) →
+        same_switch q.switch id ≡ b →
         option_map (λ (r : PodGiven). r.pod) (cond b (Some q) (find (λ (r : PodGiven). same_switch r.switch id) pods)) ≡ None →
         (same_switch id q.switch ≡ false) × AllByRecursion (λ t. same_switch id t ≡ false) (map (λ (r : PodGiven). r.switch) pods)
     by rest true same given = absurd (cc given)
@@ -95,7 +100,8 @@ module _ (f : ControlPlane) (is : IsPlan f.plan) (placed : ArePlaced f.plan f) (
     position : (f.view zero_switch).place.position ≡ Some 0
     number : (knows zero_switch ≡ Some n) ⊎ (pod_given pods (id_of f.plan zero_switch) ≡ Some n)
 
-  one_number : (told : Told) (pods : List PodGiven) → NumbersApart (id_of f.plan) knows told pods → (m n p : ℕ) → HasNumber pods m p → HasNumber pods n p → m ≡ n
+  one_number : (told : Told) (pods : List PodGiven) → NumbersApart (id_of f.plan) knows told pods → (m n p : ℕ) → HasNumber pods m p → HasNumber pods n p →
+      m ≡ n
   one_number told pods numbers m n p a b =
       let same : a.zero_switch ≡ b.zero_switch = apart p a.i b.i 0 a.zero_switch b.zero_switch a.edge b.edge a.position b.position in
       let given : pod_given pods (id_of f.plan a.zero_switch) ≡ pod_given pods (id_of f.plan b.zero_switch) = ap (λ z. pod_given pods (id_of f.plan z)) same in
@@ -148,7 +154,8 @@ module _ (f : ControlPlane) (is : IsPlan f.plan) (placed : ArePlaced f.plan f) (
     position : (f.view switch).place.position ≡ Some 0
     given : pod_given pods id ≡ Some n
 
-  given_to : (pods : List PodGiven) → IsDistinct same_switch (map (λ (g : PodGiven). g.switch) pods) → AllByRecursion (IsGivenPod f.plan f.view) pods → (n : ℕ) →
+  given_to : (pods : List PodGiven) → IsDistinct same_switch (map (λ (g : PodGiven). g.switch) pods) → AllByRecursion (IsGivenPod f.plan f.view) pods →
+      (n : ℕ) →
       is_given_pod pods n ≡ true → IsGivenTo pods n
   unfolding IsDistinct
   given_to [] once all n given = absurd (false≢true given)
@@ -158,7 +165,9 @@ module _ (f : ControlPlane) (is : IsPlan f.plan) (placed : ArePlaced f.plan f) (
       id = g.switch;
       named = all.0.named;
       position = all.0.position;
-      given = ap (λ b. option_map (λ (q : PodGiven). q.pod) (cond b (Some g) (find (λ (q : PodGiven). same_switch q.switch g.switch) pods))) (eq-eqb g.switch.0 g.switch.0 refl)
+      given =
+          ap (λ b. option_map (λ (q : PodGiven). q.pod) (cond b (Some g) (find (λ (q : PodGiven). same_switch q.switch g.switch) pods)))
+          (eq-eqb g.switch.0 g.switch.0 refl)
           ∙ ap Some (eqb-true g.pod n own);
     }
     | inr other ↦
@@ -168,11 +177,13 @@ module _ (f : ControlPlane) (is : IsPlan f.plan) (placed : ArePlaced f.plan f) (
           id = it.id;
           named = it.named;
           position = it.position;
-          given = ap (λ b. option_map (λ (q : PodGiven). q.pod) (cond b (Some g) (find (λ (q : PodGiven). same_switch q.switch it.id) pods))) (apart_from g pods it.id once.0 n it.given) ∙ it.given;
+          given = ap (λ b. option_map (λ (q : PodGiven). q.pod) (cond b (Some g) (find (λ (q : PodGiven). same_switch q.switch it.id) pods)))
+              (apart_from g pods it.id once.0 n it.given) ∙ it.given;
         }
   ]
 
-  number_of : (pods : List PodGiven) (n : ℕ) (s : ℕ) (id : SwitchId) → slice_get f.plan.ids s ≡ Some id → (f.view s).place.position ≡ Some 0 → pod_given pods id ≡ Some n →
+  number_of : (pods : List PodGiven) (n : ℕ) (s : ℕ) (id : SwitchId) → slice_get f.plan.ids s ≡ Some id → (f.view s).place.position ≡ Some 0 →
+      pod_given pods id ≡ Some n →
       (p : ℕ) × HasNumber pods n p
   number_of pods n s id named position given =
       let edge = edge_label f is placed apart s (level_zero f is placed apart s 0 position) in (
@@ -186,7 +197,8 @@ module _ (f : ControlPlane) (is : IsPlan f.plan) (placed : ArePlaced f.plan f) (
         },
       )
 
-  module _ (told : Told) (pods : List PodGiven) (gives : GivesApart f.plan f.view told pods) (s : ℕ) (id : SwitchId) (named : slice_get f.plan.ids s ≡ Some id) where
+  module _ (told : Told) (pods : List PodGiven) (gives : GivesApart f.plan f.view told pods) (s : ℕ) (id : SwitchId)
+      (named : slice_get f.plan.ids s ≡ Some id) where
     own_id : id_of f.plan s ≡ id
     own_id = get_or_from_slice_get f.plan.ids s id (record { 0 = 0 }) named
 

@@ -49,7 +49,8 @@ numbered_at_first plan limits =
       knowers = λ s t n first second. absurd (nobody s n first);
       below = λ s n known. absurd (nobody s n known);
       gives = λ whole. record {
-        apart = anew_apart (id_of plan) (own_pods f.view) f.manager.told (λ s t n first second. absurd (nobody s n first)) (λ s n known. absurd (nobody s n known));
+        apart = anew_apart (id_of plan) (own_pods f.view) f.manager.told (λ s t n first second. absurd (nobody s n first))
+            (λ s n known. absurd (nobody s n known));
         once = tt;
         given = tt;
         places = tt;
@@ -92,8 +93,10 @@ wish_words (tell.Query a b c ∷ queue) = wish_words queue
 wish_words (tell.Members group any ∷ queue) = wish_words queue
 
 -- an edge switch with position 0 knows its pod where no wish of it is due and no number waits for it
-pub first_knows : (f : ControlPlane) → IsPlan f.plan → ArePlaced f.plan f → FixedAreApart f.plan f.view → AreNumbered f → (s : ℕ) → (f.view s).place.position ≡ Some 0 →
-    is_silent f.orders s ≡ false → ((id : SwitchId) → slice_get f.plan.ids s ≡ Some id → list_any is_wish ((due_plane f).reports s) ≡ false) → list_any is_number (f.orders s) ≡ false →
+pub first_knows : (f : ControlPlane) → IsPlan f.plan → ArePlaced f.plan f → FixedAreApart f.plan f.view → AreNumbered f → (s : ℕ) →
+    (f.view s).place.position ≡ Some 0 →
+    is_silent f.orders s ≡ false → ((id : SwitchId) → slice_get f.plan.ids s ≡ Some id → list_any is_wish ((due_plane f).reports s) ≡ false) →
+    list_any is_number (f.orders s) ≡ false →
     (n : ℕ) × ((f.view s).place.pod ≡ Some n)
 first_knows f is placed apart all s position loud wishes numbers = by (f.view s).place.pod refl
   where

@@ -65,7 +65,9 @@ kept_each Q [] each = tt
 kept_each Q (h ∷ kept) each = (here, kept_each Q kept (λ id. by id (same_switch h.switch id) (each id)))
   where
     here : Q h.switch h.word
-    here = (subst (AllByRecursion (Q h.switch)) (ap (λ b. cond b (h.word ∷ kept_of h.switch kept) (kept_of h.switch kept)) (switch_itself h.switch)) (each h.switch)).0
+    here =
+        (subst (AllByRecursion (Q h.switch))
+        (ap (λ b. cond b (h.word ∷ kept_of h.switch kept) (kept_of h.switch kept)) (switch_itself h.switch)) (each h.switch)).0
 
     by : (id : SwitchId) (b : Bool) → AllByRecursion (Q id) (cond b (h.word ∷ kept_of id kept) (kept_of id kept)) → AllByRecursion (Q id) (kept_of id kept)
     by id true all = all.1
@@ -78,7 +80,8 @@ kept_own P id [] all = tt
 kept_own P id (h ∷ kept) all = by (same_switch h.switch id) (λ rest. kept_own P id kept rest) all
   where
     by : (b : Bool) → (AllByRecursion P (kept_of id kept) → AllByRecursion (λ k. same_switch k.switch id ≡ true → P k.word) kept) →
-        AllByRecursion P (cond b (h.word ∷ kept_of id kept) (kept_of id kept)) → (b ≡ true → P h.word) × AllByRecursion (λ k. same_switch k.switch id ≡ true → P k.word) kept
+        AllByRecursion P (cond b (h.word ∷ kept_of id kept) (kept_of id kept)) →
+        (b ≡ true → P h.word) × AllByRecursion (λ k. same_switch k.switch id ≡ true → P k.word) kept
     by true rest all = (λ same. all.0, rest all.1)
     by false rest all = (λ same. absurd (false≢true same), rest all)
 
@@ -91,9 +94,11 @@ some_kept id place (h ∷ kept) rest is = by (same_switch h.switch id) refl (λ 
     told word words same = cc same
 
     by : (b : Bool) → same_switch h.switch id ≡ b → (kept_of id kept ≡ tell.Place place ∷ rest → list_any (λ k. tells_place id k.switch k.word) kept ≡ true) →
-        cond b (h.word ∷ kept_of id kept) (kept_of id kept) ≡ tell.Place place ∷ rest → (tells_place id h.switch h.word || list_any (λ k. tells_place id k.switch k.word) kept) ≡ true
+        cond b (h.word ∷ kept_of id kept) (kept_of id kept) ≡ tell.Place place ∷ rest →
+        (tells_place id h.switch h.word || list_any (λ k. tells_place id k.switch k.word) kept) ≡ true
     by true same later first =
-        or_left (tells_place id h.switch h.word) (list_any (λ k. tells_place id k.switch k.word) kept) (ap (tells_place id h.switch) (told h.word (kept_of id kept) first) ∙ same)
+        or_left (tells_place id h.switch h.word) (list_any (λ k. tells_place id k.switch k.word) kept)
+        (ap (tells_place id h.switch) (told h.word (kept_of id kept) first) ∙ same)
     by false other later first = or_right (tells_place id h.switch h.word) (list_any (λ k. tells_place id k.switch k.word) kept) (later first)
 
 has_pod : (t : SwitchId) (n : ℕ) (switch : SwitchId) (word : ToManager) → (same_switch switch t ≡ true → IsPlaceWith n word) → HasPod t n switch word
@@ -128,11 +133,13 @@ none_waits (word ∷ due) none =
     by (tell.Members group any) one waits = false≢true waits
 
 -- each switch has ended once the last one does
-all_ended : {K T : Type 0} (ids : List SwitchId) (g : Gathered K T) → IsOrderly ids g → (s : SwitchId) → has ids s ≡ true → is_whole g ≡ false → is_among s g.ended ≡ false →
+all_ended : {K T : Type 0} (ids : List SwitchId) (g : Gathered K T) → IsOrderly ids g → (s : SwitchId) → has ids s ≡ true → is_whole g ≡ false →
+    is_among s g.ended ≡ false →
     is_whole (with_ended s g) ≡ true → (t : SwitchId) → has ids t ≡ true → (same_switch s t || is_among t g.ended) ≡ true
 all_ended {K} {T} ids g orderly s there part fresh last t known = elim (cases_Bool (same_switch s t || is_among t g.ended)) [
   | inl ended ↦ ended
-  | inr missing ↦ absurd (some (everyone ids h h_orderly s there mark (λ u stranger. unmarked (has ids u) stranger) part (or_left (same_switch s s) (is_among s g.ended) (switch_itself s)) fresh last t missing))
+  | inr missing ↦ absurd (some (everyone ids h h_orderly s there mark (λ u stranger. unmarked (has ids u) stranger) part
+      (or_left (same_switch s s) (is_among s g.ended) (switch_itself s)) fresh last t missing))
 ]
   where
     h : Gathered K T
@@ -221,11 +228,13 @@ module _ (f : ControlPlane) (is : IsPlan f.plan) (well : GathersWell f) (all : A
         by : (o : Option ℕ) → own_pods f.view s ≡ o → AllByRecursion (λ word. waits_for_places word ≡ true → own_pods f.view s ≡ None) due
         by None none = each none due
         by (Some n) known =
-            all_weaker (λ word. waits_for_places word ≡ true → ⊥) (λ word. waits_for_places word ≡ true → own_pods f.view s ≡ None) (λ word never waits. absurd (never waits)) due
+            all_weaker (λ word. waits_for_places word ≡ true → ⊥) (λ word. waits_for_places word ≡ true →
+            own_pods f.view s ≡ None) (λ word never waits. absurd (never waits)) due
             (none_waits due (no_wish n known))
 
     fits_first : (word : ToManager) (rest : List ToManager) → due ≡ word ∷ rest → IsFitting f s id f.manager.pods word
-    fits_first tell.PodWanted rest first = (subst (AllByRecursion (λ word. waits_for_places word ≡ true → own_pods f.view s ≡ None)) first wishes_unknown).0 refl
+    fits_first tell.PodWanted rest first =
+        (subst (AllByRecursion (λ word. waits_for_places word ≡ true → own_pods f.view s ≡ None)) first wishes_unknown).0 refl
     fits_first (tell.Place place) rest first = λ n known. elim ((all.truly.due s id named).again n known) [
       | inl given ↦ inr given
       | inr places ↦ inl (subst (AllByRecursion (IsPlaceWith n)) first places).0
@@ -244,10 +253,13 @@ module _ (f : ControlPlane) (is : IsPlan f.plan) (well : GathersWell f) (all : A
     due_begun part begun =
         ap (λ o. due_of f.manager o (f.reports s)) named
         ∙ cond-false (is_whole (gathered f.manager)) (words_of (f.reports s))
-        (cond (is_among id f.manager.begun) (kept_of id f.manager.kept ++ words_of (f.reports s)) (words_behind_begin f.manager.epoch (read (f.reports s)))) part
-        ∙ cond-true (is_among id f.manager.begun) (kept_of id f.manager.kept ++ words_of (f.reports s)) (words_behind_begin f.manager.epoch (read (f.reports s))) begun
+        (cond (is_among id f.manager.begun) (kept_of id f.manager.kept ++ words_of (f.reports s))
+        (words_behind_begin f.manager.epoch (read (f.reports s)))) part
+        ∙ cond-true (is_among id f.manager.begun) (kept_of id f.manager.kept ++ words_of (f.reports s))
+        (words_behind_begin f.manager.epoch (read (f.reports s))) begun
 
-    kept_front : (P : ToManager → Type 0) → is_whole (gathered f.manager) ≡ false → is_among id f.manager.begun ≡ true → AllByRecursion P due → AllByRecursion P (kept_of id f.manager.kept)
+    kept_front : (P : ToManager → Type 0) → is_whole (gathered f.manager) ≡ false → is_among id f.manager.begun ≡ true → AllByRecursion P due →
+        AllByRecursion P (kept_of id f.manager.kept)
     kept_front P part begun each = all_front P (kept_of id f.manager.kept) (words_of (f.reports s)) (subst (AllByRecursion P) (due_begun part begun) each)
 
 -- ---- a step
@@ -260,7 +272,8 @@ module _ (f g : ControlPlane) (is : IsPlan f.plan) (well : GathersWell f) (place
     gives : is_whole (gathered g.manager) ≡ true → GivesApart g.plan g.view g.manager.told g.manager.pods
 
   -- nothing that is known of pods changes
-  same_rest : g.plan ≡ f.plan → ((t : ℕ) → g.view t ≡ f.view t) → (is_whole (gathered g.manager) ≡ true → GivesApart f.plan f.view g.manager.told g.manager.pods) → Rest
+  same_rest : g.plan ≡ f.plan → ((t : ℕ) → g.view t ≡ f.view t) →
+      (is_whole (gathered g.manager) ≡ true → GivesApart f.plan f.view g.manager.told g.manager.pods) → Rest
   same_rest plan view gives =
       let own : (t : ℕ) → own_pods g.view t ≡ own_pods f.view t = λ t. ap (λ (v : SwitchView). own_pod v.place) (view t) in
       record {
@@ -283,7 +296,8 @@ module _ (f g : ControlPlane) (is : IsPlan f.plan) (well : GathersWell f) (place
     later : (t : ℕ) → IsTrueOf (f.view t).place (g.view t).place
     later t = elim (cases_eq t s) [
       | inl here ↦ subst (λ x. IsTrueOf (f.view x).place (g.view x).place) (sym here) a.later
-      | inr other ↦ subst (λ (v : SwitchView). IsTrueOf (f.view t).place v.place) (sym (a.turns.acted.others t other ∙ a.view t)) (true_of_itself (f.view t).place)
+      | inr other ↦ subst (λ (v : SwitchView). IsTrueOf (f.view t).place v.place) (sym (a.turns.acted.others t other ∙ a.view t))
+          (true_of_itself (f.view t).place)
     ]
 
     -- a number that is known then was known, or was given
@@ -291,7 +305,8 @@ module _ (f g : ControlPlane) (is : IsPlan f.plan) (well : GathersWell f) (place
     own_then t n known = elim (cases_eq t s) [
       | inr other ↦ inl (ap (λ (v : SwitchView). own_pod v.place) (sym (a.turns.acted.others t other ∙ a.view t)) ∙ known)
       | inl here ↦
-          subst (λ x. (own_pods f.view x ≡ Some n) ⊎ (pod_given f.manager.pods (id_of f.plan x) ≡ Some n)) (sym here) (own (ap (own_pods g.view) (sym here) ∙ known))
+          subst (λ x. (own_pods f.view x ≡ Some n) ⊎ (pod_given f.manager.pods (id_of f.plan x) ≡ Some n)) (sym here)
+          (own (ap (own_pods g.view) (sym here) ∙ known))
     ]
       where
         same_order : (x y : ToSwitch) → ◌≡◌ {A = SwitchInput} (Says x) (Says y) → x ≡ y
@@ -300,7 +315,8 @@ module _ (f g : ControlPlane) (is : IsPlan f.plan) (well : GathersWell f) (place
         given : (m : ℕ) → a.input ≡ Says (say.Pod m) → TakesOrder f a.mid s a.input → pod_given f.manager.pods (id_of f.plan s) ≡ Some m
         given m told (NoOrder same none) = absurd (none (say.Pod m) told)
         given m told (AnOrder says also first) =
-            (subst (AllByRecursion (IsPodGiven f.manager.pods (id_of f.plan s))) (first ∙ ap (λ x. x ∷ a.mid.orders s) (same_order says (say.Pod m) (sym also ∙ told))) (all.truly.said s)).0
+            (subst (AllByRecursion (IsPodGiven f.manager.pods (id_of f.plan s))) (first
+            ∙ ap (λ x. x ∷ a.mid.orders s) (same_order says (say.Pod m) (sym also ∙ told))) (all.truly.said s)).0
 
         own : own_pods g.view s ≡ Some n → (own_pods f.view s ≡ Some n) ⊎ (pod_given f.manager.pods (id_of f.plan s) ≡ Some n)
         own known = elim a.own [
@@ -332,9 +348,11 @@ module _ (f g : ControlPlane) (is : IsPlan f.plan) (well : GathersWell f) (place
           apart = apart_now whole;
           once = before.once;
           given = all_weaker (IsGivenPod f.plan f.view) (IsGivenPod f.plan g.view)
-              (λ given good. record { switch = good.switch; named = good.named; position = (later good.switch).position 0 good.position; below = good.below }) f.manager.pods before.given;
+              (λ given good. record { switch = good.switch; named = good.named; position = (later good.switch).position 0 good.position; below = good.below })
+              f.manager.pods before.given;
           places = all_weaker (IsToldPlace f.plan f.view) (IsToldPlace f.plan g.view)
-              (λ told good. record { switch = good.switch; named = good.named; pod = λ n has. (later good.switch).pod n (good.pod n has) }) f.manager.told.places before.places;
+              (λ told good. record { switch = good.switch; named = good.named; pod = λ n has. (later good.switch).pod n (good.pod n has) })
+              f.manager.told.places before.places;
         }
 
     acts_rest : Rest
@@ -376,7 +394,8 @@ module _ (f g : ControlPlane) (is : IsPlan f.plan) (well : GathersWell f) (place
     one_heard word before =
         let first : (due_plane f).reports s ≡ told ∷ words_of (m.reports s) =
         whole_due f before s id named ∙ ap words_of taken.first ∙ ap (λ (r : Report ToManager). words (r ∷ read (m.reports s))) word in
-        word_gives f is placed apart (at_rest f.manager) s id named told (subst (AllByRecursion (IsWordOf (f.view s).place)) first (all.truly.due s id named).words).0
+        word_gives f is placed apart (at_rest f.manager) s id named told
+        (subst (AllByRecursion (IsWordOf (f.view s).place)) first (all.truly.due s id named).words).0
         (fits_first f is well all s id named (loud s id named) told (words_of (m.reports s)) first) (all.gives before)
 
     -- the last report ends
@@ -409,7 +428,8 @@ module _ (f g : ControlPlane) (is : IsPlan f.plan) (well : GathersWell f) (place
           both t at (word ∷ ws) own unknown = (record { switch = t; named = at; own = own.0; unknown = unknown.0 }, both t at ws own.1 unknown.1)
 
       zero_told : (t k : ℕ) → own_pods f.view t ≡ Some k →
-          AllByRecursion (λ h. HasPod (id_of f.plan t) k h.switch h.word) f.manager.kept × (list_any (λ h. tells_place (id_of f.plan t) h.switch h.word) f.manager.kept ≡ true)
+          AllByRecursion (λ h. HasPod (id_of f.plan t) k h.switch h.word) f.manager.kept ×
+          (list_any (λ h. tells_place (id_of f.plan t) h.switch h.word) f.manager.kept ≡ true)
       zero_told t k knows =
           let other : SwitchId = id_of f.plan t in
           let at = knower_named f is placed apart t k knows in
@@ -420,13 +440,15 @@ module _ (f g : ControlPlane) (is : IsPlan f.plan) (well : GathersWell f) (place
             | inl given ↦ absurd (none-some k (sym (ap (λ gs. pod_given gs other) (none_given f is well all part)) ∙ given))
             | inr places ↦ places
           ] in (
-            all_weaker (λ h. same_switch h.switch other ≡ true → IsPlaceWith k h.word) (λ h. HasPod other k h.switch h.word) (λ h has. has_pod other k h.switch h.word has) f.manager.kept
+            all_weaker (λ h. same_switch h.switch other ≡ true →
+                IsPlaceWith k h.word) (λ h. HasPod other k h.switch h.word) (λ h has. has_pod other k h.switch h.word has) f.manager.kept
                 (kept_own (IsPlaceWith k) other f.manager.kept (kept_front f is well all t other at heard (IsPlaceWith k) part begun places)),
             by at begun known (all.first part t other at heard),
           )
         where
           by : slice_get f.plan.ids t ≡ Some (id_of f.plan t) → is_among (id_of f.plan t) f.manager.begun ≡ true → has f.plan.ids (id_of f.plan t) ≡ true →
-              PlaceComesFirst f.manager.epoch (is_among (id_of f.plan t) f.manager.begun) (is_among (id_of f.plan t) f.manager.ended) (kept_of (id_of f.plan t) f.manager.kept) (f.reports t) →
+              PlaceComesFirst f.manager.epoch (is_among (id_of f.plan t) f.manager.begun) (is_among (id_of f.plan t) f.manager.ended)
+              (kept_of (id_of f.plan t) f.manager.kept) (f.reports t) →
               list_any (λ h. tells_place (id_of f.plan t) h.switch h.word) f.manager.kept ≡ true
           by at begun known (WasKept place rest was) = some_kept (id_of f.plan t) place f.manager.kept rest was
           by at begun known (IsBehind place old rest unheard none queue) = absurd (false≢true (sym unheard ∙ begun))
@@ -434,8 +456,10 @@ module _ (f g : ControlPlane) (is : IsPlan f.plan) (well : GathersWell f) (place
               elim (or_cases (same_switch id (id_of f.plan t)) (is_among (id_of f.plan t) f.manager.ended) (ended_each (id_of f.plan t) known)) [
                 | inr ended ↦ absurd (false≢true (sym missing ∙ ended))
                 | inl same ↦
-                    let one : t ≡ s = ids_apart f.plan is t s id (at ∙ ap Some (sym (same_id id (id_of f.plan t) (eqb-true id.0 (id_of f.plan t).0 same)))) named in
-                    let front : tell.End n ∷ m.reports s ≡ tell.Place place ∷ rest = ap (λ x. x ∷ m.reports s) (sym ends) ∙ sym taken.first ∙ ap f.reports (sym one) ∙ queue in
+                    let one : t ≡ s = ids_apart f.plan is t s id
+                    (at ∙ ap Some (sym (same_id id (id_of f.plan t) (eqb-true id.0 (id_of f.plan t).0 same)))) named in
+                    let front : tell.End n ∷ m.reports s ≡ tell.Place place ∷ rest = ap (λ x. x ∷ m.reports s) (sym ends) ∙ sym taken.first
+                    ∙ ap f.reports (sym one) ∙ queue in
                     absurd (cc front)
               ]
 
@@ -452,7 +476,8 @@ module _ (f g : ControlPlane) (is : IsPlan f.plan) (well : GathersWell f) (place
 
     manager_gives : GivesApart f.plan f.view g.manager.told g.manager.pods
     manager_gives =
-        let is_after : g.manager ≡ (manager_steps f.manager id told).view = turns.manager ∙ turns.ruled.0 ∙ ap (λ v. (manager_steps v id told).view) taken.left.manager in
+        let is_after : g.manager ≡ (manager_steps f.manager id told).view = turns.manager ∙ turns.ruled.0
+        ∙ ap (λ v. (manager_steps v id told).view) taken.left.manager in
         treated (subst (λ (v : ManagerView). Treats f.manager v id told) (sym is_after) (treats_as f.manager id told))
 
   record Both : Type 0 where

@@ -140,17 +140,20 @@ one_said plan apart before s t id other told named there = elim (cases_Bool (is_
       let after = view_after before id told in
       none_ordered plan t (manager_hears before id told).acts
       (all_append IsNoNumber (reply before after id told ++ avoid_acts before.told after.told) (tree_acts before after)
-      (all_append IsNoNumber (reply before after id told) (avoid_acts before.told after.told) (none_replied before after id told word) (none_avoids before after))
+      (all_append IsNoNumber (reply before after id told) (avoid_acts before.told after.told)
+      (none_replied before after id told word) (none_avoids before after))
       (none_trees before after))
       ∙ sym (ap (λ b. one_if (b && (t == s))) word)
 ]
   where
-    wished : (told : ToManager) → is_wish told ≡ true → how_many is_number (ordered plan t (manager_hears before id told).acts) ≡ one_if (is_wish told && (t == s))
+    wished : (told : ToManager) → is_wish told ≡ true →
+        how_many is_number (ordered plan t (manager_hears before id told).acts) ≡ one_if (is_wish told && (t == s))
     wished tell.PodWanted wish =
         let after = view_after before id tell.PodWanted in
         let rest = avoid_acts before.told after.told ++ tree_acts before after in
         let both = how_many_append is_number (ordered_by plan t (reply_of after)) (ordered plan t rest) in
-        let none = none_ordered plan t rest (all_append IsNoNumber (avoid_acts before.told after.told) (tree_acts before after) (none_avoids before after) (none_trees before after)) in
+        let none = none_ordered plan t rest (all_append IsNoNumber (avoid_acts before.told after.told) (tree_acts before after)
+        (none_avoids before after) (none_trees before after)) in
         let first = said after in
         omega (arith, both, none, first)
       where

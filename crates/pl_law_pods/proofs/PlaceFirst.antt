@@ -39,7 +39,8 @@ use Rattle.pl_law_pods.proofs.Acting.{SwitchActs, TakesOrder}
 use Rattle.pl_law_pods.proofs.Acting.TakesOrder.{AnOrder, NoOrder}
 
 -- ---- more is told
-first_told : (epoch : ℕ) (begun ended : Bool) (kept queue more : List ToManager) → PlaceComesFirst epoch begun ended kept queue → PlaceComesFirst epoch begun ended kept (queue ++ more)
+first_told : (epoch : ℕ) (begun ended : Bool) (kept queue more : List ToManager) → PlaceComesFirst epoch begun ended kept queue →
+    PlaceComesFirst epoch begun ended kept (queue ++ more)
 first_told epoch begun ended kept queue more (WasKept place rest is) = WasKept place rest is
 first_told epoch begun ended kept queue more (IsNext place rest b e k is) = IsNext place (rest ++ more) b e k (ap (λ q. q ++ more) is)
 first_told epoch begun ended kept queue more (IsBehind place old rest b none is) =
@@ -59,10 +60,12 @@ module _ (f g : ControlPlane) (is : IsPlan f.plan) (well : GathersWell f) (first
   abbrev IsFirstIn : SwitchId → List ToManager → Type 0
   IsFirstIn id queue = PlaceComesFirst f.manager.epoch (is_among id f.manager.begun) (is_among id f.manager.ended) (kept_of id f.manager.kept) queue
 
-  acts_here : (id : SwitchId) → slice_get f.plan.ids s ≡ Some id → is_whole (gathered f.manager) ≡ false → is_silent g.orders s ≡ false → IsFirstIn id (g.reports s)
+  acts_here : (id : SwitchId) → slice_get f.plan.ids s ≡ Some id → is_whole (gathered f.manager) ≡ false → is_silent g.orders s ≡ false →
+      IsFirstIn id (g.reports s)
   acts_here id named part loud =
       subst (IsFirstIn id) (sym (a.turns.acted.reports ∙ ap (λ r. r ++ tells a.turns.acts) (a.reports s))) (elim (cases_Bool (is_silent f.orders s)) [
-        | inr before ↦ first_told f.manager.epoch (is_among id f.manager.begun) (is_among id f.manager.ended) (kept_of id f.manager.kept) (f.reports s) (tells a.turns.acts) (first part s id named before)
+        | inr before ↦ first_told f.manager.epoch (is_among id f.manager.begun) (is_among id f.manager.ended) (kept_of id f.manager.kept) (f.reports s)
+            (tells a.turns.acts) (first part s id named before)
         | inl silent ↦ by silent a.takes
       ])
     where
@@ -74,9 +77,11 @@ module _ (f g : ControlPlane) (is : IsPlan f.plan) (well : GathersWell f) (first
             let w = a.mid.view s in
             let hello : says ≡ say.Hello f.manager.epoch = front says (say.Hello f.manager.epoch) (a.mid.orders s) [] (sym taken ∙ alone) in
             let words : tells a.turns.acts ≡ report_for f.manager.epoch w =
-            ap tells a.turns.ruled.steps.done ∙ ap (λ x. tells (switch_step a.turns.ruled.choose w x).acts) (order ∙ ap (λ x. Says x) hello) ∙ each_tells (report_for f.manager.epoch w) in
+            ap tells a.turns.ruled.steps.done ∙ ap (λ x. tells (switch_step a.turns.ruled.choose w x).acts) (order ∙ ap (λ x. Says x) hello)
+            ∙ each_tells (report_for f.manager.epoch w) in
             let old = well.old s id named silent in
-            IsBehind w.place (f.reports s) (behind_place f.manager.epoch (links_reported w) (wish_reported w.place) (addresses_reported w) (members_reported w)) old.not_begun old.begins_none
+            IsBehind w.place (f.reports s)
+            (behind_place f.manager.epoch (links_reported w) (wish_reported w.place) (addresses_reported w) (members_reported w)) old.not_begun old.begins_none
             (ap (λ ws. f.reports s ++ ws) words)
       ]
         where
@@ -87,22 +92,28 @@ module _ (f g : ControlPlane) (is : IsPlan f.plan) (well : GathersWell f) (first
   acts_first part t id named loud =
       let missing : is_whole (gathered f.manager) ≡ false = ap (λ (v : ManagerView). is_whole (gathered v)) (sym manager_then) ∙ part in
       let there : slice_get f.plan.ids t ≡ Some id = ap (λ (p : Plan). slice_get p.ids t) (sym (a.turns.acted.plan ∙ a.plan)) ∙ named in
-      subst (λ (v : ManagerView). PlaceComesFirst v.epoch (is_among id v.begun) (is_among id v.ended) (kept_of id v.kept) (g.reports t)) (sym manager_then) (elim (cases_eq t s) [
+      subst (λ (v : ManagerView). PlaceComesFirst v.epoch (is_among id v.begun) (is_among id v.ended) (kept_of id v.kept) (g.reports t)) (sym manager_then)
+      (elim (cases_eq t s) [
         | inl here ↦
-            subst (λ x. IsFirstIn id (g.reports x)) (sym here) (acts_here id (ap (slice_get f.plan.ids) (sym here) ∙ there) missing (ap (is_silent g.orders) (sym here) ∙ loud))
+            subst (λ x. IsFirstIn id (g.reports x)) (sym here)
+            (acts_here id (ap (slice_get f.plan.ids) (sym here) ∙ there) missing (ap (is_silent g.orders) (sym here) ∙ loud))
         | inr other ↦
             let orders = a.turns.acted.orders t ∙ a.others t other in
-            subst (IsFirstIn id) (sym (a.turns.acted.other_reports t other ∙ a.reports t)) (first missing t id there (ap (list_any is_hello) (sym orders) ∙ loud))
+            subst (IsFirstIn id) (sym (a.turns.acted.other_reports t other ∙ a.reports t))
+            (first missing t id there (ap (list_any is_hello) (sym orders) ∙ loud))
       ])
 
 -- ---- the manager hears a word, and a report is missing still
 -- how it gathers then
 pub data Collects (v w : ManagerView) (id : SwitchId) (told : ToManager) : Type 0 where
   Ignores : w.begun ≡ v.begun → w.ended ≡ v.ended → w.kept ≡ v.kept →
-      (is_among id v.begun ≡ true → (as_report told ≡ Tells told → ⊥)) → (is_among id v.begun ≡ false → begins v.epoch (as_report told) ≡ true → ⊥) → Collects v w id told
-  BeginsIt : (n : ℕ) → told ≡ tell.Begin n → (n == v.epoch) ≡ true → is_among id v.begun ≡ false → w.begun ≡ id ∷ v.begun → w.ended ≡ v.ended → w.kept ≡ v.kept → Collects v w id told
+      (is_among id v.begun ≡ true → (as_report told ≡ Tells told → ⊥)) → (is_among id v.begun ≡ false → begins v.epoch (as_report told) ≡ true → ⊥) →
+      Collects v w id told
+  BeginsIt : (n : ℕ) → told ≡ tell.Begin n → (n == v.epoch) ≡ true → is_among id v.begun ≡ false → w.begun ≡ id ∷ v.begun → w.ended ≡ v.ended →
+      w.kept ≡ v.kept → Collects v w id told
   EndsIt : (n : ℕ) → told ≡ tell.End n → is_among id v.begun ≡ true → w.begun ≡ v.begun → w.ended ≡ id ∷ v.ended → w.kept ≡ v.kept → Collects v w id told
-  KeepsIt : is_among id v.begun ≡ true → w.begun ≡ v.begun → w.ended ≡ v.ended → w.kept ≡ v.kept ++ record { switch = id; word = told } ∷ [] → Collects v w id told
+  KeepsIt : is_among id v.begun ≡ true → w.begun ≡ v.begun → w.ended ≡ v.ended → w.kept ≡ v.kept ++ record { switch = id; word = told } ∷ [] →
+      Collects v w id told
 
 pub record IsMissing (v w : ManagerView) (id : SwitchId) (told : ToManager) : Type 0 where
   pub part : is_whole (gathered v) ≡ false
@@ -122,7 +133,8 @@ module _ (v : ManagerView) (id : SwitchId) where
   word_gathers : (word : ToManager) → as_report word ≡ Tells word → (begins v.epoch (as_report word) ≡ true → ⊥) → Goal word (After (Tells word))
   word_gathers word is_word no_begin =
       let h : Heard ToManager = record { switch = id; word = word } in
-      cond_both (is_whole g₀) (steps_at_word treats follows g₀ h) (does_nothing (keeps_word g₀ id word)) (λ (st : Step Treating ToManager ManagerAct). Goal word (viewed st.now))
+      cond_both (is_whole g₀) (steps_at_word treats follows g₀ h) (does_nothing (keeps_word g₀ id word))
+      (λ (st : Step Treating ToManager ManagerAct). Goal word (viewed st.now))
       (λ whole missing size. absurd (false≢true (sym missing ∙ ap (λ k. (v.epoch == 0) || nat_le (switch_count k) (length v.ended)) size ∙ whole)))
       (λ part. cond_both (is_among id g₀.begun) (record g₀ { kept = g₀.kept ++ h ∷ [] }) g₀ (λ (g : Gathered Treating ToManager). Goal word (viewed g))
       (λ begun missing size. record { part = part; epoch = refl; collects = KeepsIt begun refl refl refl })
@@ -134,15 +146,18 @@ module _ (v : ManagerView) (id : SwitchId) where
 
   begin_gathers : (n : ℕ) → Goal (tell.Begin n) (After (as_report (tell.Begin n)))
   begin_gathers n =
-      cond_both (is_whole g₀ || (not (n == g₀.epoch) || is_among id g₀.begun)) g₀ (record g₀ { begun = id ∷ g₀.begun }) (λ (g : Gathered Treating ToManager). Goal (tell.Begin n) (viewed g))
+      cond_both (is_whole g₀ || (not (n == g₀.epoch) || is_among id g₀.begun)) g₀ (record g₀ { begun = id ∷ g₀.begun })
+      (λ (g : Gathered Treating ToManager). Goal (tell.Begin n) (viewed g))
       (λ void missing size. record {
         part = missing;
         epoch = refl;
-        collects = Ignores refl refl refl (λ begun same. absurd (cc same)) (λ fresh begin. ignored (is_whole g₀) (n == v.epoch) (is_among id v.begun) void missing begin fresh);
+        collects = Ignores refl refl refl (λ begun same. absurd (cc same))
+            (λ fresh begin. ignored (is_whole g₀) (n == v.epoch) (is_among id v.begun) void missing begin fresh);
       })
       (λ heard missing size.
       let two = or_parts (is_whole g₀) (not (n == g₀.epoch) || is_among id g₀.begun) heard in
-      record { part = missing; epoch = refl; collects = BeginsIt n refl (unnot (n == g₀.epoch) (or_parts (not (n == g₀.epoch)) (is_among id g₀.begun) two.1).0) (or_parts (not (n == g₀.epoch)) (is_among id g₀.begun) two.1).1 refl refl refl })
+      let more = or_parts (not (n == g₀.epoch)) (is_among id g₀.begun) two.1 in
+      record { part = missing; epoch = refl; collects = BeginsIt n refl (unnot (n == g₀.epoch) more.0) more.1 refl refl refl })
     where
       unnot : (b : Bool) → not b ≡ false → b ≡ true
       unnot true h = refl
@@ -153,8 +168,13 @@ module _ (v : ManagerView) (id : SwitchId) where
 
   end_gathers : (n : ℕ) → Goal (tell.End n) (After (as_report (tell.End n)))
   end_gathers n =
-      cond_both (is_void_end g₀ id n) (does_nothing g₀) (steps_at_end treats waits_for_places follows g₀ id) (λ (st : Step Treating ToManager ManagerAct). Goal (tell.End n) (viewed st.now))
-      (λ void missing size. record { part = missing; epoch = refl; collects = Ignores refl refl refl (λ begun same. absurd (cc same)) (λ fresh begin. absurd (false≢true begin)) })
+      cond_both (is_void_end g₀ id n) (does_nothing g₀) (steps_at_end treats waits_for_places follows g₀ id)
+      (λ (st : Step Treating ToManager ManagerAct). Goal (tell.End n) (viewed st.now))
+      (λ void missing size. record {
+        part = missing;
+        epoch = refl;
+        collects = Ignores refl refl refl (λ begun same. absurd (cc same)) (λ fresh begin. absurd (false≢true begin));
+      })
       (λ heard.
       let two = or_parts (is_whole g₀) (not (n == g₀.epoch && is_among id g₀.begun) || is_among id g₀.ended) heard in
       let more = or_parts (not (n == g₀.epoch && is_among id g₀.begun)) (is_among id g₀.ended) two.1 in
@@ -218,9 +238,11 @@ module _ (v w : ManagerView) (id : SwitchId) (told : ToManager) (queue rest : Li
   next_kept (KeepsIt x b e k) place begun none is =
       let h : Heard ToManager = record { switch = id; word = told } in
       WasKept place []
-      (ap (kept_of id) k ∙ kept_of_append id v.kept (h ∷ []) ∙ ap (λ ws. ws ++ kept_of id (h ∷ [])) none ∙ ap (λ c. cond c (told ∷ []) []) (switch_itself id) ∙ ap (λ t. t ∷ []) is)
+      (ap (kept_of id) k ∙ kept_of_append id v.kept (h ∷ []) ∙ ap (λ ws. ws ++ kept_of id (h ∷ [])) none
+      ∙ ap (λ c. cond c (told ∷ []) []) (switch_itself id) ∙ ap (λ t. t ∷ []) is)
 
-  behind_next : Collects v w id told → (place : Place) (old others : List ToManager) → is_among id v.begun ≡ false → AllByRecursion (λ r. begins v.epoch r ≡ false) (read old) →
+  behind_next : Collects v w id told → (place : Place) (old others : List ToManager) → is_among id v.begun ≡ false →
+      AllByRecursion (λ r. begins v.epoch r ≡ false) (read old) →
       told ∷ rest ≡ old ++ tell.Begin v.epoch ∷ tell.Place place ∷ others → FirstIn w rest
   behind_next collects place [] others fresh none is = by collects (front told (tell.Begin v.epoch) rest (tell.Place place ∷ others) is)
       (behind told (tell.Begin v.epoch) rest (tell.Place place ∷ others) is)
@@ -239,7 +261,8 @@ module _ (v w : ManagerView) (id : SwitchId) (told : ToManager) (queue rest : Li
       by (EndsIt n so begun b e k) begin next = absurd (false≢true (sym fresh ∙ begun))
       by (KeepsIt begun b e k) begin next = absurd (false≢true (sym fresh ∙ begun))
   behind_next collects place (o ∷ old) others fresh none is =
-      by collects (front told o rest (old ++ tell.Begin v.epoch ∷ tell.Place place ∷ others) is) (behind told o rest (old ++ tell.Begin v.epoch ∷ tell.Place place ∷ others) is)
+      by collects (front told o rest (old ++ tell.Begin v.epoch ∷ tell.Place place ∷ others) is)
+      (behind told o rest (old ++ tell.Begin v.epoch ∷ tell.Place place ∷ others) is)
     where
       by : Collects v w id told → told ≡ o → rest ≡ old ++ tell.Begin v.epoch ∷ tell.Place place ∷ others → FirstIn w rest
       by (Ignores b e k x y) same next =
@@ -251,7 +274,8 @@ module _ (v w : ManagerView) (id : SwitchId) (told : ToManager) (queue rest : Li
 
   pub heard_first : FirstIn v queue → FirstIn w rest
   heard_first (WasKept place others is) = kept_more missing.collects place others is
-  heard_first (IsNext place others begun ended none is) = next_kept missing.collects place begun none (front told (tell.Place place) rest others (sym taken ∙ is))
+  heard_first (IsNext place others begun ended none is) =
+      next_kept missing.collects place begun none (front told (tell.Place place) rest others (sym taken ∙ is))
   heard_first (IsBehind place old others fresh none is) = behind_next missing.collects place old others fresh none (sym taken ∙ is)
 
 -- of another switch
@@ -259,9 +283,11 @@ other_first : (v w : ManagerView) (id other : SwitchId) (told : ToManager) (queu
     PlaceComesFirst v.epoch (is_among other v.begun) (is_among other v.ended) (kept_of other v.kept) queue →
     PlaceComesFirst w.epoch (is_among other w.begun) (is_among other w.ended) (kept_of other w.kept) queue
 other_first v w id other told queue missing apart first =
-    same w.epoch (is_among other w.begun) (is_among other w.ended) (kept_of other w.kept) missing.epoch (begun missing.collects) (ended missing.collects) (kept missing.collects)
+    same w.epoch (is_among other w.begun) (is_among other w.ended) (kept_of other w.kept) missing.epoch (begun missing.collects) (ended missing.collects)
+    (kept missing.collects)
   where
-    same : (epoch : ℕ) (b e : Bool) (k : List ToManager) → epoch ≡ v.epoch → b ≡ is_among other v.begun → e ≡ is_among other v.ended → k ≡ kept_of other v.kept → PlaceComesFirst epoch b e k queue
+    same : (epoch : ℕ) (b e : Bool) (k : List ToManager) → epoch ≡ v.epoch → b ≡ is_among other v.begun → e ≡ is_among other v.ended →
+        k ≡ kept_of other v.kept → PlaceComesFirst epoch b e k queue
     same epoch b e k epochs bs es ks =
         subst (λ n. PlaceComesFirst n b e k queue) (sym epochs) (subst₂ (λ x y. PlaceComesFirst v.epoch x y k queue) (sym bs) (sym es)
         (subst (λ x. PlaceComesFirst v.epoch (is_among other v.begun) (is_among other v.ended) x queue) (sym ks) first))
@@ -287,10 +313,12 @@ other_first v w id other told queue missing apart first =
     kept (EndsIt n so x b e k) = ap (kept_of other) k
     kept (KeepsIt x b e k) =
         let h : Heard ToManager = record { switch = id; word = told } in
-        ap (kept_of other) k ∙ kept_of_append other v.kept (h ∷ []) ∙ ap (λ c. kept_of other v.kept ++ cond c (told ∷ []) []) apart ∙ append-nil (kept_of other v.kept)
+        ap (kept_of other) k ∙ kept_of_append other v.kept (h ∷ []) ∙ ap (λ c. kept_of other v.kept ++ cond c (told ∷ []) []) apart
+        ∙ append-nil (kept_of other v.kept)
 
 -- the manager acts
-pub manager_first : (f m g : ControlPlane) → IsPlan f.plan → GathersWell f → (s : ℕ) (id : SwitchId) (told : ToManager) → slice_get f.plan.ids s ≡ Some id → IsReportTaken f s told m →
+pub manager_first : (f m g : ControlPlane) → IsPlan f.plan → GathersWell f → (s : ℕ) (id : SwitchId) (told : ToManager) → slice_get f.plan.ids s ≡ Some id →
+    IsReportTaken f s told m →
     ManagerTurns whole_rule m id told g → PlacesComeFirst f → PlacesComeFirst g
 unfolding manager_steps
 manager_first f m g is well s id told named taken turns first part t other there loud =
@@ -301,15 +329,18 @@ manager_first f m g is well s id told named taken turns first part t other there
     let at : slice_get f.plan.ids t ≡ Some other = ap (λ (p : Plan). slice_get p.ids t) (sym (turns.plan ∙ taken.left.plan)) ∙ there in
     let before : is_silent f.orders t ≡ false =
     (or_parts (is_silent f.orders t) (list_any is_hello (ordered m.plan t turns.acts))
-    (sym (ap (list_any is_hello) (turns.orders t ∙ ap (λ os. os ++ ordered m.plan t turns.acts) (taken.orders t)) ∙ any_append is_hello (f.orders t) (ordered m.plan t turns.acts)) ∙ loud)).0 in
+    (sym (ap (list_any is_hello) (turns.orders t ∙ ap (λ os. os ++ ordered m.plan t turns.acts) (taken.orders t))
+    ∙ any_append is_hello (f.orders t) (ordered m.plan t turns.acts)) ∙ loud)).0 in
     let was = first missing.part t other at before in
-    subst₂ (λ (v : ManagerView) q. PlaceComesFirst v.epoch (is_among other v.begun) (is_among other v.ended) (kept_of other v.kept) q) (sym is_after) (sym (turns.reports t))
+    subst₂ (λ (v : ManagerView) q. PlaceComesFirst v.epoch (is_among other v.begun) (is_among other v.ended) (kept_of other v.kept) q) (sym is_after)
+    (sym (turns.reports t))
     (elim (cases_eq t s) [
       | inl here ↦
           let one : id ≡ other = same_Some id other (sym named ∙ ap (slice_get f.plan.ids) (sym here) ∙ at) in
           subst₂ (λ x y. PlaceComesFirst after.epoch (is_among y after.begun) (is_among y after.ended) (kept_of y after.kept) (m.reports x)) (sym here) one
           (heard_first f.manager after id told (f.reports s) (m.reports s) taken.first missing (well.orderly.gathering.kept id) (well.orderly.begun id)
-          (subst₂ (λ x y. PlaceComesFirst f.manager.epoch (is_among y f.manager.begun) (is_among y f.manager.ended) (kept_of y f.manager.kept) (f.reports x)) here (sym one) was))
+          (subst₂ (λ x y. PlaceComesFirst f.manager.epoch (is_among y f.manager.begun) (is_among y f.manager.ended) (kept_of y f.manager.kept)
+          (f.reports x)) here (sym one) was))
       | inr differ ↦
           let apart : same_switch id other ≡ false = elim (cases_Bool (same_switch id other)) [
             | inr apart ↦ apart
@@ -322,6 +353,7 @@ manager_first f m g is well s id told named taken turns first part t other there
 -- nobody acts
 pub left_first : (f g : ControlPlane) → IsLeft f g → AreAsBefore f g → PlacesComeFirst f → PlacesComeFirst g
 left_first f g left same first part t id named loud =
-    subst₂ (λ (v : ManagerView) q. PlaceComesFirst v.epoch (is_among id v.begun) (is_among id v.ended) (kept_of id v.kept) q) (sym left.manager) (sym (same.reports t))
+    subst₂ (λ (v : ManagerView) q. PlaceComesFirst v.epoch (is_among id v.begun) (is_among id v.ended) (kept_of id v.kept) q) (sym left.manager)
+    (sym (same.reports t))
     (first (ap (λ (v : ManagerView). is_whole (gathered v)) (sym left.manager) ∙ part) t id (ap (λ (p : Plan). slice_get p.ids t) (sym left.plan) ∙ named)
     (ap (list_any is_hello) (sym (same.orders t)) ∙ loud))

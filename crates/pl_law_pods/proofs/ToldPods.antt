@@ -79,12 +79,14 @@ module _ (t : SwitchId) (n : ℕ) where
           (λ h. sym (same_is s t h)) (λ e. subst (λ x. same_switch x t ≡ true) e (switch_itself t)))
           ∙ said (same_switch s t) (value_at id_cmp view.told.places t)
 
-      by : (b : Bool) → (b ≡ true → place.pod ≡ Some n) → (Stands view.told) ⊎ ((b || rest) ≡ true) → ((cond b place (place_of view.told t)).pod ≡ Some n) ⊎ (rest ≡ true)
+      by : (b : Bool) → (b ≡ true → place.pod ≡ Some n) → (Stands view.told) ⊎ ((b || rest) ≡ true) →
+          ((cond b place (place_of view.told t)).pod ≡ Some n) ⊎ (rest ≡ true)
       by true own known = inl (own refl)
       by false own (inl stands) = inl stands
       by false own (inr some) = inr some
 
-  word_told : (view : ManagerView) (s : SwitchId) (word : ToManager) (rest : Bool) → HasPod t n s word → (Stands view.told) ⊎ ((tells_place t s word || rest) ≡ true) →
+  word_told : (view : ManagerView) (s : SwitchId) (word : ToManager) (rest : Bool) → HasPod t n s word →
+      (Stands view.told) ⊎ ((tells_place t s word || rest) ≡ true) →
       (Stands (view_after view s word).told) ⊎ (rest ≡ true)
   word_told view s (tell.Place place) rest has either = placed view s place rest has either
   word_told view s (tell.Link u usable) rest has either = either

@@ -49,17 +49,20 @@ known_folded (h ∷ heard) done = known_folded heard (then_treats treats done h)
 all_told : (heard : List (Heard ToManager)) (x : Treating) → (treats_all treats follows x heard).known.view.told ≡ (fold treat x heard).view.told
 all_told heard x =
     let done = (fold (then_treats treats) (record { known = x; acts = [] }) heard).known in
-    released_told (to_release done) (record { view = done.view; acts = [] }) ∙ ap (λ (k : Treating). k.view.told) (known_folded heard (record { known = x; acts = [] }))
+    released_told (to_release done) (record { view = done.view; acts = [] })
+    ∙ ap (λ (k : Treating). k.view.told) (known_folded heard (record { known = x; acts = [] }))
 
 all_pods : (heard : List (Heard ToManager)) (x : Treating) → (treats_all treats follows x heard).known.view.pods ≡ (fold treat x heard).view.pods
 all_pods heard x =
     let done = (fold (then_treats treats) (record { known = x; acts = [] }) heard).known in
-    released_pods (to_release done) (record { view = done.view; acts = [] }) ∙ ap (λ (k : Treating). k.view.pods) (known_folded heard (record { known = x; acts = [] }))
+    released_pods (to_release done) (record { view = done.view; acts = [] })
+    ∙ ap (λ (k : Treating). k.view.pods) (known_folded heard (record { known = x; acts = [] }))
 
 -- ---- what a step is
 pub data Treats (v w : ManagerView) (id : SwitchId) (told : ToManager) : Type 0 where
   Keeps : w.told ≡ v.told → w.pods ≡ v.pods → (is_whole (gathered w) ≡ true → is_whole (gathered v) ≡ true) → Treats v w id told
-  Hears : as_report told ≡ Tells told → is_whole (gathered v) ≡ true → w.told ≡ (treats_word (at_rest v) id told).known.view.told → w.pods ≡ (treats_word (at_rest v) id told).known.view.pods → Treats v w id told
+  Hears : as_report told ≡ Tells told → is_whole (gathered v) ≡ true → w.told ≡ (treats_word (at_rest v) id told).known.view.told →
+      w.pods ≡ (treats_word (at_rest v) id told).known.view.pods → Treats v w id told
   GoesThrough : (n : ℕ) → told ≡ tell.End n → is_whole (gathered v) ≡ false → is_among id v.begun ≡ true → is_among id v.ended ≡ false →
       is_whole (with_ended id (gathered v)) ≡ true → w.told ≡ (fold treat (at_rest v) (in_turn waits_for_places v.kept)).view.told →
       w.pods ≡ (fold treat (at_rest v) (in_turn waits_for_places v.kept)).view.pods → Treats v w id told
@@ -74,19 +77,22 @@ module _ (v : ManagerView) (id : SwitchId) where
   word_as : (word : ToManager) → as_report word ≡ Tells word → Treats v (After (Tells word)) id word
   word_as word is_word =
       let h : Heard ToManager = record { switch = id; word = word } in
-      cond_both (is_whole g₀) (steps_at_word treats follows g₀ h) (does_nothing (keeps_word g₀ id word)) (λ (st : Step Treating ToManager ManagerAct). Treats v (viewed st.now) id word)
+      cond_both (is_whole g₀) (steps_at_word treats follows g₀ h) (does_nothing (keeps_word g₀ id word))
+      (λ (st : Step Treating ToManager ManagerAct). Treats v (viewed st.now) id word)
       (λ whole. Hears is_word whole (all_told (h ∷ []) (at_rest v)) (all_pods (h ∷ []) (at_rest v)))
       (λ part. cond_both (is_among id g₀.begun) (record g₀ { kept = g₀.kept ++ h ∷ [] }) g₀ (λ (g : Gathered Treating ToManager). Treats v (viewed g) id word)
       (λ begun. Keeps refl refl (λ whole. whole)) (λ unheard. Keeps refl refl (λ whole. whole)))
 
   begin_as : (n : ℕ) → Treats v (After (as_report (tell.Begin n))) id (tell.Begin n)
   begin_as n =
-      cond_both (is_whole g₀ || (not (n == g₀.epoch) || is_among id g₀.begun)) g₀ (record g₀ { begun = id ∷ g₀.begun }) (λ (g : Gathered Treating ToManager). Treats v (viewed g) id (tell.Begin n))
+      cond_both (is_whole g₀ || (not (n == g₀.epoch) || is_among id g₀.begun)) g₀ (record g₀ { begun = id ∷ g₀.begun })
+      (λ (g : Gathered Treating ToManager). Treats v (viewed g) id (tell.Begin n))
       (λ void. Keeps refl refl (λ whole. whole)) (λ heard. Keeps refl refl (λ whole. whole))
 
   end_as : (n : ℕ) → Treats v (After (as_report (tell.End n))) id (tell.End n)
   end_as n =
-      cond_both (is_void_end g₀ id n) (does_nothing g₀) (steps_at_end treats waits_for_places follows g₀ id) (λ (st : Step Treating ToManager ManagerAct). Treats v (viewed st.now) id (tell.End n))
+      cond_both (is_void_end g₀ id n) (does_nothing g₀) (steps_at_end treats waits_for_places follows g₀ id)
+      (λ (st : Step Treating ToManager ManagerAct). Treats v (viewed st.now) id (tell.End n))
       (λ void. Keeps refl refl (λ whole. whole))
       (λ heard.
       let two = or_parts (is_whole g₀) (not (n == g₀.epoch && is_among id g₀.begun) || is_among id g₀.ended) heard in
@@ -94,7 +100,8 @@ module _ (v : ManagerView) (id : SwitchId) where
       let here = and_parts (n == g₀.epoch) (is_among id g₀.begun) (unnot (n == g₀.epoch && is_among id g₀.begun) more.0) in
       cond_both (is_whole (with_ended id g₀)) (goes_through treats waits_for_places follows (with_ended id g₀)) (does_nothing (with_ended id g₀))
       (λ (st : Step Treating ToManager ManagerAct). Treats v (viewed st.now) id (tell.End n))
-      (λ last. GoesThrough n refl two.0 here.1 more.1 last (all_told (in_turn waits_for_places v.kept) (at_rest v)) (all_pods (in_turn waits_for_places v.kept) (at_rest v)))
+      (λ last. GoesThrough n refl two.0 here.1 more.1 last
+      (all_told (in_turn waits_for_places v.kept) (at_rest v)) (all_pods (in_turn waits_for_places v.kept) (at_rest v)))
       (λ missing. Keeps refl refl (λ whole. absurd (false≢true (sym missing ∙ whole)))))
     where
       unnot : (b : Bool) → not b ≡ false → b ≡ true
@@ -123,7 +130,8 @@ passed : {X : Type 0} (P : X → Type 0) (p : X → Bool) (xs : List X) → AllB
 passed P p [] all = tt
 passed P p (x ∷ xs) all = by (p x) refl (passed P p xs all.1)
   where
-    by : (b : Bool) → p x ≡ b → AllByRecursion (λ y. P y × (p y ≡ true)) (filter p xs) → AllByRecursion (λ y. P y × (p y ≡ true)) (cond b (x ∷ filter p xs) (filter p xs))
+    by : (b : Bool) → p x ≡ b → AllByRecursion (λ y. P y × (p y ≡ true)) (filter p xs) →
+        AllByRecursion (λ y. P y × (p y ≡ true)) (cond b (x ∷ filter p xs) (filter p xs))
     by true is rest = ((all.0, is), rest)
     by false is rest = rest
 
@@ -131,7 +139,8 @@ still_any : {X : Type 0} (q p : X → Bool) → ((x : X) → q x ≡ true → p 
 still_any q p each [] any = any
 still_any q p each (x ∷ xs) any = by (p x) refl (λ rest. still_any q p each xs rest) any
   where
-    by : (b : Bool) → p x ≡ b → (list_any q xs ≡ true → list_any q (filter p xs) ≡ true) → (q x || list_any q xs) ≡ true → list_any q (cond b (x ∷ filter p xs) (filter p xs)) ≡ true
+    by : (b : Bool) → p x ≡ b → (list_any q xs ≡ true → list_any q (filter p xs) ≡ true) → (q x || list_any q xs) ≡ true →
+        list_any q (cond b (x ∷ filter p xs) (filter p xs)) ≡ true
     by true is rest some = elim (or_cases (q x) (list_any q xs) some) [
       | inl own ↦ or_left (q x) (list_any q (filter p xs)) own
       | inr later ↦ or_right (q x) (list_any q (filter p xs)) (rest later)
@@ -162,7 +171,8 @@ module _ (f : ControlPlane) (is : IsPlan f.plan) (placed : ArePlaced f.plan f) (
   abbrev pub Gives : Treating → Type 0
   Gives x = GivesApart f.plan f.view x.view.told x.view.pods
 
-  linked : (told : Told) (pods : List PodGiven) (id u : SwitchId) (usable : Bool) → GivesApart f.plan f.view told pods → GivesApart f.plan f.view (with_link told id u usable) pods
+  linked : (told : Told) (pods : List PodGiven) (id u : SwitchId) (usable : Bool) → GivesApart f.plan f.view told pods →
+      GivesApart f.plan f.view (with_link told id u usable) pods
   linked told pods id u usable gives = record {
     apart = record { one = gives.apart.one; knowers = gives.apart.knowers; askers = gives.apart.askers; both = gives.apart.both; stands = gives.apart.stands };
     once = gives.once;
@@ -192,12 +202,15 @@ module _ (f : ControlPlane) (is : IsPlan f.plan) (placed : ArePlaced f.plan f) (
 
   -- ---- all that was kept
   -- the wishes
-  wishes_give : (heard : List (Heard ToManager)) (x : Treating) → AllByRecursion (λ h. IsKeptWord f h.switch h.word × (waits_for_places h.word ≡ true)) heard → Gives x → Gives (fold treat x heard)
+  wishes_give : (heard : List (Heard ToManager)) (x : Treating) → AllByRecursion (λ h. IsKeptWord f h.switch h.word × (waits_for_places h.word ≡ true)) heard →
+      Gives x → Gives (fold treat x heard)
   wishes_give [] x all gives = gives
   wishes_give (h ∷ heard) x all gives =
-      wishes_give heard (treat x h) all.1 (word_gives x all.0.0.switch h.switch all.0.0.named h.word all.0.0.own (fits all.0.0.switch h.word all.0.1 all.0.0.unknown) gives)
+      wishes_give heard (treat x h) all.1 (word_gives x all.0.0.switch h.switch all.0.0.named h.word all.0.0.own
+      (fits all.0.0.switch h.word all.0.1 all.0.0.unknown) gives)
     where
-      fits : (s : ℕ) (word : ToManager) → waits_for_places word ≡ true → (waits_for_places word ≡ true → own_pods f.view s ≡ None) → IsFitting f s h.switch x.view.pods word
+      fits : (s : ℕ) (word : ToManager) → waits_for_places word ≡ true → (waits_for_places word ≡ true → own_pods f.view s ≡ None) →
+          IsFitting f s h.switch x.view.pods word
       fits s tell.PodWanted waits unknown = unknown waits
       fits s (tell.Place place) waits unknown = absurd (false≢true waits)
       fits s (tell.Link u usable) waits unknown = tt
@@ -214,7 +227,8 @@ module _ (f : ControlPlane) (is : IsPlan f.plan) (placed : ArePlaced f.plan f) (
     none : x.view.pods ≡ []
     places : AllByRecursion (IsToldPlace f.plan f.view) x.view.told.places
 
-  other_phase : (v : ManagerView) (s : ℕ) (id : SwitchId) → slice_get f.plan.ids s ≡ Some id → (word : ToManager) → IsWordOf (f.view s).place word → waits_for_places word ≡ false →
+  other_phase : (v : ManagerView) (s : ℕ) (id : SwitchId) → slice_get f.plan.ids s ≡ Some id → (word : ToManager) → IsWordOf (f.view s).place word →
+      waits_for_places word ≡ false →
       v.pods ≡ [] → AllByRecursion (IsToldPlace f.plan f.view) v.told.places →
       ((view_after v id word).pods ≡ []) × AllByRecursion (IsToldPlace f.plan f.view) (view_after v id word).told.places
   other_phase v s id named tell.PodWanted own other none places = absurd (cc other)
@@ -229,10 +243,12 @@ module _ (f : ControlPlane) (is : IsPlan f.plan) (placed : ArePlaced f.plan f) (
   other_phase v s id named (tell.Query a b c) own other none places = (none, places)
   other_phase v s id named (tell.Members group any) own other none places = (none, places)
 
-  others_phase : (heard : List (Heard ToManager)) (x : Treating) → AllByRecursion (λ h. IsKeptWord f h.switch h.word × (not (waits_for_places h.word) ≡ true)) heard → IsPhase x → IsPhase (fold treat x heard)
+  others_phase : (heard : List (Heard ToManager)) (x : Treating) →
+      AllByRecursion (λ h. IsKeptWord f h.switch h.word × (not (waits_for_places h.word) ≡ true)) heard → IsPhase x → IsPhase (fold treat x heard)
   others_phase [] x all phase = phase
   others_phase (h ∷ heard) x all phase =
-      let next = other_phase x.view all.0.0.switch h.switch all.0.0.named h.word all.0.0.own (unwaited (waits_for_places h.word) all.0.1) phase.none phase.places in
+      let next = other_phase x.view all.0.0.switch h.switch all.0.0.named h.word all.0.0.own
+      (unwaited (waits_for_places h.word) all.0.1) phase.none phase.places in
       others_phase heard (treat x h) all.1 (record {
         none = treated_pods x h.switch h.word ∙ next.0;
         places = subst (λ (told : Told). AllByRecursion (IsToldPlace f.plan f.view) told.places) (sym (treated_told x h.switch h.word)) next.1;
@@ -242,9 +258,11 @@ module _ (f : ControlPlane) (is : IsPlan f.plan) (placed : ArePlaced f.plan f) (
       unwaited true is = absurd (cc is)
       unwaited false is = refl
 
-  pub all_give : (kept : List (Heard ToManager)) (x : Treating) → x.view.pods ≡ [] → x.view.told.places ≡ [] → AllByRecursion (λ h. IsKeptWord f h.switch h.word) kept →
+  pub all_give : (kept : List (Heard ToManager)) (x : Treating) → x.view.pods ≡ [] → x.view.told.places ≡ [] →
+      AllByRecursion (λ h. IsKeptWord f h.switch h.word) kept →
       ((s t n : ℕ) → own_pods f.view s ≡ Some n → own_pods f.view t ≡ Some n → s ≡ t) →
-      ((s n : ℕ) → own_pods f.view s ≡ Some n → AllByRecursion (λ h. HasPod (id_of f.plan s) n h.switch h.word) kept × (list_any (λ h. tells_place (id_of f.plan s) h.switch h.word) kept ≡ true)) →
+      ((s n : ℕ) → own_pods f.view s ≡ Some n →
+      AllByRecursion (λ h. HasPod (id_of f.plan s) n h.switch h.word) kept × (list_any (λ h. tells_place (id_of f.plan s) h.switch h.word) kept ≡ true)) →
       Gives (fold treat x (in_turn waits_for_places kept))
   unfolding IsDistinct
   all_give kept x none nowhere words knowers told =
@@ -258,9 +276,11 @@ module _ (f : ControlPlane) (is : IsPlan f.plan) (placed : ArePlaced f.plan f) (
       let has = told s n known in
       pods_are_told (id_of f.plan s) n others x
       (weaker s n others (passed (λ h. HasPod (id_of f.plan s) n h.switch h.word) (λ h. not (waits_for_places h.word)) kept has.0))
-      (inr (still_any (λ h. tells_place (id_of f.plan s) h.switch h.word) (λ h. not (waits_for_places h.word)) (λ h tells. no_wait (id_of f.plan s) h.switch h.word tells) kept has.1)) in
+      (inr (still_any (λ h. tells_place (id_of f.plan s) h.switch h.word) (λ h. not (waits_for_places h.word))
+      (λ h tells. no_wait (id_of f.plan s) h.switch h.word tells) kept has.1)) in
       let gives : Gives after = record {
-        apart = subst (NumbersApart (id_of f.plan) (own_pods f.view) after.view.told) (sym phase.none) (anew_apart (id_of f.plan) (own_pods f.view) after.view.told knowers stands);
+        apart = subst (NumbersApart (id_of f.plan) (own_pods f.view) after.view.told) (sym phase.none)
+            (anew_apart (id_of f.plan) (own_pods f.view) after.view.told knowers stands);
         once = subst (λ (gs : List PodGiven). IsDistinct same_switch (map (λ (g : PodGiven). g.switch) gs)) (sym phase.none) tt;
         given = subst (AllByRecursion (IsGivenPod f.plan f.view)) (sym phase.none) tt;
         places = phase.places;
@@ -268,7 +288,8 @@ module _ (f : ControlPlane) (is : IsPlan f.plan) (placed : ArePlaced f.plan f) (
       subst Gives (sym (fold_append treat x others wishes))
       (wishes_give wishes after (passed (AreKept f) (λ h. waits_for_places h.word) kept words) gives)
     where
-      weaker : (s n : ℕ) (heard : List (Heard ToManager)) → AllByRecursion (λ h. HasPod (id_of f.plan s) n h.switch h.word × (not (waits_for_places h.word) ≡ true)) heard →
+      weaker : (s n : ℕ) (heard : List (Heard ToManager)) →
+          AllByRecursion (λ h. HasPod (id_of f.plan s) n h.switch h.word × (not (waits_for_places h.word) ≡ true)) heard →
           AllByRecursion (λ h. HasPod (id_of f.plan s) n h.switch h.word) heard
       weaker s n [] all = tt
       weaker s n (h ∷ heard) all = (all.0.0, weaker s n heard all.1)

@@ -32,7 +32,8 @@ use Rattle.pl_law_pods.proofs.WaysKept.{acts_way, none_released, treated_way, tu
 use Rattle.pl_law_pods.proofs.WishesTold.{how_many_append}
 
 -- ---- a step
-module _ (f g : ControlPlane) (is : IsPlan f.plan) (placed : ArePlaced f.plan f) (apart : FixedAreApart f.plan f.view) (apart_then : FixedAreApart f.plan g.view)
+module _ (f g : ControlPlane) (is : IsPlan f.plan) (placed : ArePlaced f.plan f) (apart : FixedAreApart f.plan f.view)
+    (apart_then : FixedAreApart f.plan g.view)
     (numbers : ArePodNumbers f) (unheard : AreUnheard f) (all : HaveOneWay f) where
   step_way : (step : PlaneStep Loose treats_one f g) → LosesNoWord Loose treats_one f g step → HaveOneWay g
   step_way step kept = by (step_acted treats_one f g is placed apart apart_then numbers step kept)
@@ -47,7 +48,8 @@ module _ (f g : ControlPlane) (is : IsPlan f.plan) (placed : ArePlaced f.plan f)
       by (Manager s id told m named taken turns) = λ t other there loud.
           let at = ap (λ (p : Plan). slice_get p.ids t) (sym (turns.plan ∙ taken.left.plan)) ∙ there in
           let before : is_silent f.orders t ≡ false =
-          loud_before (f.orders t) (g.orders t) (ordered m.plan t turns.acts) (turns.orders t ∙ ap (λ os. os ++ ordered m.plan t turns.acts) (taken.orders t)) loud in
+          loud_before (f.orders t) (g.orders t) (ordered m.plan t turns.acts)
+          (turns.orders t ∙ ap (λ os. os ++ ordered m.plan t turns.acts) (taken.orders t)) loud in
           treated_way f m g (ids_apart f.plan is) s id told named taken turns t other at (all t other at before)
         where
           loud_before : (before after more : List ToSwitch) → after ≡ before ++ more → list_any is_hello after ≡ false → list_any is_hello before ≡ false
@@ -59,7 +61,8 @@ part_way : (f g : ControlPlane) → ManagerPart f g → IsPlan f.plan × HaveOne
 part_way f g part both = (
   subst IsPlan (sym alike) both.0,
   λ t id named loud.
-      by t id (ap (λ (p : Plan). slice_get p.ids t) (sym alike) ∙ named) (both.1 t id (ap (λ (p : Plan). slice_get p.ids t) (sym alike) ∙ named) (part_loud f g part t loud)) part,
+      by t id (ap (λ (p : Plan). slice_get p.ids t) (sym alike) ∙ named)
+      (both.1 t id (ap (λ (p : Plan). slice_get p.ids t) (sym alike) ∙ named) (part_loud f g part t loud)) part,
 )
   where
     alike : g.plan ≡ f.plan
@@ -95,16 +98,19 @@ sifted_way f g sifted all t id named loud =
     let position = ap (λ (v : SwitchView). one_if (is_known v.place.position 0)) (sifted.alike.view t) in
     omega (arith, wishes, orders, known, position, before)
 
-due_way : (f g : ControlPlane) → IsPlan f.plan → ArePlaced f.plan f → FixedAreApart f.plan f.view → FixedAreApart f.plan g.view → ArePodNumbers f → AreUnheard f →
+due_way : (f g : ControlPlane) → IsPlan f.plan → ArePlaced f.plan f → FixedAreApart f.plan f.view → FixedAreApart f.plan g.view → ArePodNumbers f →
+    AreUnheard f →
     HaveOneWay f → DueStep Loose f g → HaveOneWay g
 due_way f g is placed apart apart_then numbers unheard all (Stepped told step sifted) =
     sifted_way told g sifted (step_way f told is placed apart (λ pod i j x s t a b c d. apart_then pod i j x s t a b
-    (ap (λ (v : SwitchView). v.place.position) (sifted.alike.view s) ∙ c) (ap (λ (v : SwitchView). v.place.position) (sifted.alike.view t) ∙ d)) numbers unheard all step.0 step.1)
+    (ap (λ (v : SwitchView). v.place.position) (sifted.alike.view s) ∙ c)
+    (ap (λ (v : SwitchView). v.place.position) (sifted.alike.view t) ∙ d)) numbers unheard all step.0 step.1)
 due_way f g is placed apart apart_then numbers unheard all (ManagedBy mids parts) =
     (through_parts (λ x. IsPlan x.plan × HaveOneWay x) part_way mids f g parts (is, all)).1
 
 -- of the whole control plane
-pub ways_kept : (f g : ControlPlane) → IsPlan f.plan → GathersWell f → ArePlaced f.plan f → FixedAreApart f.plan f.view → FixedAreApart f.plan g.view → ArePodNumbers f →
+pub ways_kept : (f g : ControlPlane) → IsPlan f.plan → GathersWell f → ArePlaced f.plan f → FixedAreApart f.plan f.view → FixedAreApart f.plan g.view →
+    ArePodNumbers f →
     HaveOneWay (due_plane f) → WholeStep Loose whole_rule f g → HaveOneWay (due_plane g)
 ways_kept f g is well placed apart apart_then numbers all step =
     due_way (due_plane f) (due_plane g) is

@@ -55,7 +55,8 @@ parted p q [] = refl
 parted p q (x ∷ xs) = by (p x) (parted p q xs)
   where
     by : (b : Bool) → how_many q (filter (λ y. not (p y)) xs) + how_many q (filter p xs) ≡ how_many q xs →
-        how_many q (cond (not b) (x ∷ filter (λ y. not (p y)) xs) (filter (λ y. not (p y)) xs)) + how_many q (cond b (x ∷ filter p xs) (filter p xs)) ≡ how_many q (x ∷ xs)
+        how_many q (cond (not b) (x ∷ filter (λ y. not (p y)) xs) (filter (λ y. not (p y)) xs)) + how_many q
+        (cond b (x ∷ filter p xs) (filter p xs)) ≡ how_many q (x ∷ xs)
     by true rest =
         let here = how_many_first q x (filter p xs) in
         let all = how_many_first q x xs in
@@ -124,7 +125,8 @@ wish_shown place edge =
 -- a switch that hears the number of its pod takes it
 takes : (v : SwitchView) (n : ℕ) → v.place.level ≡ Some 0 → v.place.position ≡ Some 0 → v.place.pod ≡ None → n < 65535 → (hears_pod v n).view.place.pod ≡ Some n
 takes v n level position none within =
-    let known = and_from (is_known v.place.level 0) (is_known v.place.position 0) (ap (λ (o : Option ℕ). is_known o 0) level) (ap (λ (o : Option ℕ). is_known o 0) position) in
+    let known = and_from (is_known v.place.level 0) (is_known v.place.position 0) (ap (λ (o : Option ℕ). is_known o 0) level)
+    (ap (λ (o : Option ℕ). is_known o 0) position) in
     let without = and_from (is_known v.place.level 0 && is_known v.place.position 0) (is_none v.place.pod) known (ap (λ (o : Option ℕ). is_none o) none) in
     let may : takes_pod v n ≡ true = and_from (is_known v.place.level 0 && is_known v.place.position 0 && is_none v.place.pod) (not (n == 65535)) without
     (ap not (ne_eqb n 65535 (λ is. absurd (omega (arith, within, is))))) in
@@ -171,7 +173,8 @@ module _ (f g : ControlPlane) (edges : (s : ℕ) → (f.view s).place.position �
 
   -- it takes no number
   quiet_way : ((epoch : ℕ) → a.input ≡ Says (say.Hello epoch) → ⊥) → ((n : ℕ) → a.input ≡ Says (say.Pod n) → ⊥) →
-      how_many is_number (a.mid.orders s) ≡ how_many is_number (f.orders s) → HasOneWay old (f.reports s) (f.orders s) → HasOneWay new (g.reports s) (g.orders s)
+      how_many is_number (a.mid.orders s) ≡ how_many is_number (f.orders s) → HasOneWay old (f.reports s) (f.orders s) →
+      HasOneWay new (g.reports s) (g.orders s)
   quiet_way no_hello no_pod same before =
       let more = reports_then in
       let orders = orders_then in
@@ -189,7 +192,8 @@ module _ (f g : ControlPlane) (edges : (s : ℕ) → (f.view s).place.position �
       let more = reports_then in
       let orders = orders_then in
       let wishes = asks (λ epoch hello. let apart = sym is ∙ hello in absurd (cc apart)) in
-      let one : how_many is_number (f.orders s) ≡ 1 + how_many is_number (a.mid.orders s) = ap (how_many is_number) first ∙ how_many_first is_number (say.Pod n) (a.mid.orders s) in
+      let one : how_many is_number (f.orders s) ≡ 1 + how_many is_number (a.mid.orders s) = ap (how_many is_number) first
+      ∙ how_many_first is_number (say.Pod n) (a.mid.orders s) in
       let least = small_one (is_known old.position 0) in
       let most = small_one (is_known new.position 0) in
       let zero : one_if (is_known old.position 0) ≡ 1 = omega (arith, one, least, before) in
@@ -199,7 +203,8 @@ module _ (f g : ControlPlane) (edges : (s : ℕ) → (f.view s).place.position �
       let small : n < 65535 = (subst (AllByRecursion IsPodNumber) first (numbers s)).0 in
       let w = a.mid.view s in
       let same = ap (λ (v : SwitchView). v.place) (a.view s) in
-      let takes = takes w n (ap (λ (p : Place). p.level) same ∙ edges s position) (ap (λ (p : Place). p.position) same ∙ position) (ap (λ (p : Place). p.pod) same ∙ pod) small in
+      let takes = takes w n (ap (λ (p : Place). p.level) same ∙ edges s position) (ap (λ (p : Place). p.position) same ∙ position)
+      (ap (λ (p : Place). p.pod) same ∙ pod) small in
       let after : new.pod ≡ Some n =
       ap (λ (v : SwitchView). v.place.pod) view_then ∙ ap (λ x. (switch_step a.turns.ruled.choose w x).view.place.pod) is ∙ takes in
       let known : one_if (is_some (own_pod new)) ≡ 1 = ap (λ (o : Option ℕ). one_if (is_some o)) (own_some new n (a.later.position 0 position) after) in
@@ -215,7 +220,8 @@ module _ (f g : ControlPlane) (edges : (s : ℕ) → (f.view s).place.position �
           let some = ap (λ (o : Option ℕ). one_if (is_some o)) (own_some old x at is) in absurd (omega (arith, unknown, some))
 
   -- it hears that the manager began anew, and tells its report
-  greeted : (id : SwitchId) → slice_get f.plan.ids s ≡ Some id → is_silent f.orders s ≡ true → (says : ToSwitch) → a.input ≡ Says says → f.orders s ≡ says ∷ a.mid.orders s →
+  greeted : (id : SwitchId) → slice_get f.plan.ids s ≡ Some id → is_silent f.orders s ≡ true → (says : ToSwitch) → a.input ≡ Says says →
+      f.orders s ≡ says ∷ a.mid.orders s →
       HasOneWay new (g.reports s) (g.orders s)
   greeted id named silent says is first =
       let so = unheard s id named silent in
@@ -252,27 +258,36 @@ module _ (f g : ControlPlane) (edges : (s : ℕ) → (f.view s).place.position �
         | inr before ↦ heard says is first (all s id named before) before
       ]
         where
-          other : (says : ToSwitch) → is_number says ≡ false → a.input ≡ Says says → f.orders s ≡ says ∷ a.mid.orders s → ((epoch : ℕ) → says ≡ say.Hello epoch → ⊥) →
+          other : (says : ToSwitch) → is_number says ≡ false → a.input ≡ Says says → f.orders s ≡ says ∷ a.mid.orders s →
+              ((epoch : ℕ) → says ≡ say.Hello epoch → ⊥) →
               ((n : ℕ) → says ≡ say.Pod n → ⊥) → HasOneWay old (f.reports s) (f.orders s) → HasOneWay new (g.reports s) (g.orders s)
           other says no_number is first no_hello no_pod before =
               let one = ap (how_many is_number) first ∙ how_many_first is_number says (a.mid.orders s) in
               let none = ap one_if no_number in
-              quiet_way (λ epoch hello. no_hello epoch (said says (say.Hello epoch) (sym is ∙ hello))) (λ n pod. no_pod n (said says (say.Pod n) (sym is ∙ pod)))
+              quiet_way (λ epoch hello. no_hello epoch (said says (say.Hello epoch) (sym is ∙ hello)))
+              (λ n pod. no_pod n (said says (say.Pod n) (sym is ∙ pod)))
               (omega (arith, one, none)) before
             where
               said : (x y : ToSwitch) → ◌≡◌ {A = SwitchInput} (Says x) (Says y) → x ≡ y
               said x y same = cc same
 
-          heard : (says : ToSwitch) → a.input ≡ Says says → f.orders s ≡ says ∷ a.mid.orders s → HasOneWay old (f.reports s) (f.orders s) → is_silent f.orders s ≡ false →
+          heard : (says : ToSwitch) → a.input ≡ Says says → f.orders s ≡ says ∷ a.mid.orders s → HasOneWay old (f.reports s) (f.orders s) →
+              is_silent f.orders s ≡ false →
               HasOneWay new (g.reports s) (g.orders s)
           heard (say.Pod n) is first before loud_before = pod_way n is first before
           heard (say.Hello epoch) is first before loud_before = absurd (false≢true (sym loud_before ∙ ap (list_any is_hello) first))
-          heard (say.Avoid list) is first before loud_before = other (say.Avoid list) refl is first (λ e same. absurd (cc same)) (λ n same. absurd (cc same)) before
-          heard (say.Tree group part) is first before loud_before = other (say.Tree group part) refl is first (λ e same. absurd (cc same)) (λ n same. absurd (cc same)) before
-          heard (say.Answer x b c d) is first before loud_before = other (say.Answer x b c d) refl is first (λ e same. absurd (cc same)) (λ n same. absurd (cc same)) before
-          heard (say.Flood x b c) is first before loud_before = other (say.Flood x b c) refl is first (λ e same. absurd (cc same)) (λ n same. absurd (cc same)) before
-          heard (say.Invalidate x b c d) is first before loud_before = other (say.Invalidate x b c d) refl is first (λ e same. absurd (cc same)) (λ n same. absurd (cc same)) before
-          heard (say.Release x) is first before loud_before = other (say.Release x) refl is first (λ e same. absurd (cc same)) (λ n same. absurd (cc same)) before
+          heard (say.Avoid list) is first before loud_before =
+              other (say.Avoid list) refl is first (λ e same. absurd (cc same)) (λ n same. absurd (cc same)) before
+          heard (say.Tree group part) is first before loud_before =
+              other (say.Tree group part) refl is first (λ e same. absurd (cc same)) (λ n same. absurd (cc same)) before
+          heard (say.Answer x b c d) is first before loud_before =
+              other (say.Answer x b c d) refl is first (λ e same. absurd (cc same)) (λ n same. absurd (cc same)) before
+          heard (say.Flood x b c) is first before loud_before =
+              other (say.Flood x b c) refl is first (λ e same. absurd (cc same)) (λ n same. absurd (cc same)) before
+          heard (say.Invalidate x b c d) is first before loud_before =
+              other (say.Invalidate x b c d) refl is first (λ e same. absurd (cc same)) (λ n same. absurd (cc same)) before
+          heard (say.Release x) is first before loud_before =
+              other (say.Release x) refl is first (λ e same. absurd (cc same)) (λ n same. absurd (cc same)) before
 
   pub acts_way : HaveOneWay g
   acts_way t id named loud = elim (cases_eq t s) [
@@ -321,7 +336,8 @@ module _ (f m g : ControlPlane) (apart : AreApart f.plan) (s : ℕ) (id : Switch
   left_then = elim (cases_eq t s) [
     | inl here ↦
         ap (λ x. how_many is_wish (f.reports x)) here ∙ ap (how_many is_wish) taken.first ∙ how_many_first is_wish told (m.reports s)
-        ∙ ap (λ b. one_if b + how_many is_wish (m.reports s)) (own (is_wish told) (eq-eqb t s here)) ∙ ap (λ x. one_if (is_wish told && (t == s)) + how_many is_wish (m.reports x)) (sym here)
+        ∙ ap (λ b. one_if b + how_many is_wish (m.reports s)) (own (is_wish told) (eq-eqb t s here))
+        ∙ ap (λ x. one_if (is_wish told && (t == s)) + how_many is_wish (m.reports x)) (sym here)
     | inr differ ↦
         let none : one_if (is_wish told && (t == s)) ≡ 0 = ap one_if (nothing (is_wish told) (ne_eqb t s differ)) in
         let same = ap (how_many is_wish) (taken.others t differ) in
@@ -336,7 +352,8 @@ module _ (f m g : ControlPlane) (apart : AreApart f.plan) (s : ℕ) (id : Switch
       nothing true is = is
       nothing false is = refl
 
-  goes : (more : List ToSwitch) → how_many is_number more ≡ one_if (is_wish told && (t == s)) → g.orders t ≡ f.orders t ++ more → HasOneWay (g.view t).place (g.reports t) (g.orders t)
+  goes : (more : List ToSwitch) → how_many is_number more ≡ one_if (is_wish told && (t == s)) → g.orders t ≡ f.orders t ++ more →
+      HasOneWay (g.view t).place (g.reports t) (g.orders t)
   goes more many orders =
       let left = left_then in
       let wishes = ap (how_many is_wish) (turns.reports t) in

@@ -134,7 +134,8 @@ host_frame_none choose v port frame =
     (λ edge. all_append IsNoWish known.acts (takes_in_or_spent choose port frame w).acts
     (all_append IsNoWish (finds_host v port).acts (learns_source (finds_host v port).view port frame).acts (changes_none v (with_host v port) refl)
     (learns_source_acts IsNoWish grants (finds_host v port).view port frame))
-    (taken_in choose port frame w (λ (step : SwitchStep). AllByRecursion IsNoWish step.acts) (λ cause. (tt, tt)) (packet_taken_acts IsNoWish IsAnyPort frames w port frame)
+    (taken_in choose port frame w (λ (step : SwitchStep). AllByRecursion IsNoWish step.acts) (λ cause. (tt, tt))
+    (packet_taken_acts IsNoWish IsAnyPort frames w port frame)
     (all_append IsNoWish (hears_members w port frame).acts (act.Take ∷ []) (groups_acts IsNoWish w.members _ (λ group other. tt)) (tt, tt))
     (sends_in_acts IsNoWish IsAnyPort frames choose w (any_way choose w) (with_pmac w port frame) (λ trap is ip. tt))))
 
@@ -151,7 +152,8 @@ invalidates_none v old trap (Some grant) =
     all_append IsNoWish forgot.acts (probes old grant forgot.view).acts (groups_acts IsNoWish (sets_trap v old grant trap).members _ (λ group other. tt))
     (probes_acts IsNoWish IsAnyPort (λ port frame way. tt) old grant forgot.view tt (λ i. tt))
 
-orders_none : (choose : Choice) (v : SwitchView) (says : ToSwitch) → ((epoch : ℕ) → says ≡ say.Hello epoch → ⊥) → AllByRecursion IsNoWish (hears_manager choose v says).acts
+orders_none : (choose : Choice) (v : SwitchView) (says : ToSwitch) → ((epoch : ℕ) → says ≡ say.Hello epoch → ⊥) →
+    AllByRecursion IsNoWish (hears_manager choose v says).acts
 orders_none choose v (say.Pod n) other =
     cond_both (takes_pod v n) (changes_to v (with_pod v (Some n))) (rests v) (λ (step : SwitchStep). AllByRecursion IsNoWish step.acts)
     (λ takes. changes_none v (with_pod v (Some n)) refl) (λ stays. tt)
@@ -220,21 +222,24 @@ module _ (choose : Choice) (v : SwitchView) where
   abbrev EdgeAt : SwitchStep → Type 0
   EdgeAt st = st.view.place.position ≡ Some 0 → st.view.place.level ≡ Some 0
 
-  heard : (port : ℕ) (read : Result Control ControlError) → LaterAt (hears_control v port read) → EdgeAt (hears_control v port read) → AsksOnce v (hears_control v port read)
+  heard : (port : ℕ) (read : Result Control ControlError) → LaterAt (hears_control v port read) → EdgeAt (hears_control v port read) →
+      AsksOnce v (hears_control v port read)
   heard port (Err e) later edge = quiet v (rests v) refl tt
   heard port (Ok (Ldm id m)) later edge =
       let w = after_message v port id m in
       let same = ap (λ (x : Stance). x.position) (same_stance v port id m) in
       quiet v (changes_to v w) (ap (λ (x : Stance). x.position) (changes v w).same ∙ same) (changes_none v w same)
   heard port (Ok (Proposal id p)) later edge =
-      quiet v (hears_proposal v port id p) (ap (λ (w : SwitchView). w.place.position) (proposal_holds v port id p)) (proposal_acts IsNoWish (λ at told. tt) v port id p)
+      quiet v (hears_proposal v port id p) (ap (λ (w : SwitchView). w.place.position) (proposal_holds v port id p))
+      (proposal_acts IsNoWish (λ at told. tt) v port id p)
   heard port (Ok (Vote id vote)) later edge =
       let w = after_vote v port vote in
       let place = ap (λ (x : SwitchView). x.place) (changes_learn v w) in
       voted v w (λ is. ap (λ (p : Place). p.position) (sym place) ∙ later is)
       (λ is. ap (λ (p : Place). p.level) (sym place) ∙ edge (ap (λ (p : Place). p.position) place ∙ is))
 
-  pub step_asks_once : (input : SwitchInput) → ((epoch : ℕ) → input ≡ Says (say.Hello epoch) → ⊥) → LaterAt (switch_step choose v input) → EdgeAt (switch_step choose v input) →
+  pub step_asks_once : (input : SwitchInput) → ((epoch : ℕ) → input ≡ Says (say.Hello epoch) → ⊥) → LaterAt (switch_step choose v input) →
+      EdgeAt (switch_step choose v input) →
       AsksOnce v (switch_step choose v input)
   step_asks_once Tick other later edge = quiet v (ticks v) (ap (λ (w : SwitchView). w.place.position) (ages_learn (with_aged_ports v))) (ticks_none v)
   step_asks_once (Says says) other later edge =
@@ -243,6 +248,8 @@ module _ (choose : Choice) (v : SwitchView) where
   step_asks_once (Comes port frame) other later edge =
       cond_both (is_control frame) (control_comes v port frame) (data_comes choose v port frame) (λ (st : SwitchStep). LaterAt st → EdgeAt st → AsksOnce v st)
       (λ control. cond_both (port_of v port).host (rests v) (hears_control v port (control_in (payload_of frame)))
-      (λ (st : SwitchStep). LaterAt st → EdgeAt st → AsksOnce v st) (λ host a b. quiet v (rests v) refl tt) (λ link. heard port (control_in (payload_of frame))))
-      (λ data_frame a b. quiet v (data_comes choose v port frame) (ap (λ (x : Stance). x.position) (aside_data choose v port frame).same) (data_none choose v port frame))
+      (λ (st : SwitchStep). LaterAt st → EdgeAt st →
+      AsksOnce v st) (λ host a b. quiet v (rests v) refl tt) (λ link. heard port (control_in (payload_of frame))))
+      (λ data_frame a b. quiet v (data_comes choose v port frame)
+      (ap (λ (x : Stance). x.position) (aside_data choose v port frame).same) (data_none choose v port frame))
       later edge

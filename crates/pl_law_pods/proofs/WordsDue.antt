@@ -147,10 +147,13 @@ module _ (f g : ControlPlane) (all : AreTrulyDue f) (a : SwitchActs f g) where
     place_then = ap (λ (v : SwitchView). v.place) (sym (a.turns.acted.here ∙ a.turns.ruled.steps.view))
 
     told : AllByRecursion (IsOwnWord new) (tells a.turns.acts)
-    told = subst₂ (λ place acts. AllByRecursion (IsOwnWord place) (tells acts)) place_then (sym a.turns.ruled.steps.done) (told_own a.turns.ruled.choose (a.mid.view s) a.input)
+    told =
+        subst₂ (λ place acts. AllByRecursion (IsOwnWord place) (tells acts)) place_then (sym a.turns.ruled.steps.done)
+        (told_own a.turns.ruled.choose (a.mid.view s) a.input)
 
     -- a number that it takes it was given
-    given : (n m : ℕ) → own_pod new ≡ Some n → own_pod new ≡ Some m → a.input ≡ Says (say.Pod m) → TakesOrder f a.mid s a.input → pod_given f.manager.pods id ≡ Some n
+    given : (n m : ℕ) → own_pod new ≡ Some n → own_pod new ≡ Some m → a.input ≡ Says (say.Pod m) → TakesOrder f a.mid s a.input →
+        pod_given f.manager.pods id ≡ Some n
     given n m knows takes is (NoOrder same none) = absurd (none (say.Pod m) is)
     given n m knows takes is (AnOrder says also first) =
         let order : says ≡ say.Pod m = same_order says (say.Pod m) (sym also ∙ is) in
@@ -180,7 +183,8 @@ module _ (f g : ControlPlane) (all : AreTrulyDue f) (a : SwitchActs f g) where
 
   pub acts_due : AreTrulyDue g
   acts_due = record {
-    said = λ t. subst₂ (λ (p : Plan) (v : ManagerView). AllByRecursion (IsPodGiven v.pods (id_of p t)) (g.orders t)) (sym plan_then) (sym manager_then) (said_then t);
+    said = λ t. subst₂ (λ (p : Plan) (v : ManagerView). AllByRecursion (IsPodGiven v.pods (id_of p t)) (g.orders t)) (sym plan_then) (sym manager_then)
+        (said_then t);
     due = λ t id named.
         let there : slice_get f.plan.ids t ≡ Some id = ap (λ (p : Plan). slice_get p.ids t) (sym plan_then) ∙ named in
         subst (λ (v : ManagerView). IsTrulyDue v.pods id (g.view t).place (g.reports t)) (sym manager_then) (elim (cases_eq t s) [
@@ -194,7 +198,8 @@ module _ (f g : ControlPlane) (all : AreTrulyDue f) (a : SwitchActs f g) where
 
 -- ---- the manager acts
 -- where less is due, and more was given
-less_due : (before after : List PodGiven) (id : SwitchId) (place : Place) (gone due : List ToManager) → ((n : ℕ) → pod_given before id ≡ Some n → pod_given after id ≡ Some n) →
+less_due : (before after : List PodGiven) (id : SwitchId) (place : Place) (gone due : List ToManager) →
+    ((n : ℕ) → pod_given before id ≡ Some n → pod_given after id ≡ Some n) →
     IsTrulyDue before id place (gone ++ due) → IsTrulyDue after id place due
 less_due before after id place gone due stays is = record {
   words = all_behind (IsWordOf place) gone due is.words;
@@ -204,7 +209,8 @@ less_due before after id place gone due stays is = record {
   ];
 }
 
-same_due : (pods : List PodGiven) (id : SwitchId) (place : Place) (before after : List ToManager) → ((P : ToManager → Type 0) → AllByRecursion P before → AllByRecursion P after) →
+same_due : (pods : List PodGiven) (id : SwitchId) (place : Place) (before after : List ToManager) →
+    ((P : ToManager → Type 0) → AllByRecursion P before → AllByRecursion P after) →
     IsTrulyDue pods id place before → IsTrulyDue pods id place after
 same_due pods id place before after each is = record {
   words = each (IsWordOf place) is.words;
@@ -257,7 +263,8 @@ heard_due m g id word turns all =
     let is_after = turns.manager ∙ turns.ruled.0 in
     record {
       said = λ t. subst₂ (λ (p : Plan) (v : ManagerView). AllByRecursion (IsPodGiven v.pods (id_of p t)) (g.orders t)) (sym turns.plan) (sym is_after)
-          (subst (AllByRecursion (IsPodGiven after.pods (id_of m.plan t))) (sym (turns.orders t ∙ ap (λ acts. m.orders t ++ ordered m.plan t acts) turns.ruled.1))
+          (subst (AllByRecursion (IsPodGiven after.pods (id_of m.plan t)))
+          (sym (turns.orders t ∙ ap (λ acts. m.orders t ++ ordered m.plan t acts) turns.ruled.1))
           (all_append (IsPodGiven after.pods (id_of m.plan t)) (m.orders t) (ordered m.plan t (manager_hears m.manager id word).acts)
           (all_weaker (IsPodGiven m.manager.pods (id_of m.plan t)) (IsPodGiven after.pods (id_of m.plan t))
           (λ order is. order_then m.manager id (id_of m.plan t) word order is) (m.orders t) (all.said t))
@@ -268,7 +275,8 @@ heard_due m g id word turns all =
           (all.due t other (ap (λ (p : Plan). slice_get p.ids t) (sym turns.plan) ∙ named))));
     }
 
-treated_due : (f m g : ControlPlane) (s : ℕ) (id : SwitchId) (word : ToManager) → IsReportTaken f s word m → ManagerTurns treats_one m id word g → AreTrulyDue f → AreTrulyDue g
+treated_due : (f m g : ControlPlane) (s : ℕ) (id : SwitchId) (word : ToManager) → IsReportTaken f s word m → ManagerTurns treats_one m id word g →
+    AreTrulyDue f → AreTrulyDue g
 treated_due f m g s id word taken turns all = elim (heard_or_noted m g id word turns) [
   | inl ruled ↦ heard_due m g id word ruled (taken_due f m s word taken all)
   | inr noted ↦ learns_due m g noted.1 turns.reports (taken_due f m s word taken all)
@@ -317,7 +325,8 @@ sifted_due f g sifted all = record {
       (subst (AllByRecursion (IsPodGiven f.manager.pods (id_of f.plan t))) (sym (sifted.orders t)) (all.said t));
   due = λ t id named. subst (λ (v : ManagerView). IsTrulyDue v.pods id (g.view t).place (g.reports t)) (sym sifted.manager)
       (same_due f.manager.pods id (g.view t).place (f.reports t) (g.reports t)
-      (λ P each. subst (AllByRecursion P) (sym (sifted.reports t)) (cond_both _ [] (words_of (f.reports t)) (AllByRecursion P) (λ silent. tt) (λ loud. words_all P (f.reports t) each)))
+      (λ P each. subst (AllByRecursion P) (sym (sifted.reports t)) (cond_both _ [] (words_of (f.reports t)) (AllByRecursion P)
+      (λ silent. tt) (λ loud. words_all P (f.reports t) each)))
       (subst (λ (v : SwitchView). IsTrulyDue f.manager.pods id v.place (f.reports t)) (sym (sifted.alike.view t))
       (all.due t id (ap (λ (p : Plan). slice_get p.ids t) (sym sifted.alike.plan) ∙ named))));
 }
@@ -333,7 +342,8 @@ left_due f g plan manager view reports orders all = record {
       (all.due t id (ap (λ (p : Plan). slice_get p.ids t) (sym plan) ∙ named)));
 }
 
-module _ (f g : ControlPlane) (is : IsPlan f.plan) (placed : ArePlaced f.plan f) (apart : FixedAreApart f.plan f.view) (apart_then : FixedAreApart f.plan g.view)
+module _ (f g : ControlPlane) (is : IsPlan f.plan) (placed : ArePlaced f.plan f) (apart : FixedAreApart f.plan f.view)
+    (apart_then : FixedAreApart f.plan g.view)
     (numbers : ArePodNumbers f) (all : AreTrulyDue f) where
   step_truly : (step : PlaneStep Loose treats_one f g) → LosesNoWord Loose treats_one f g step → AreTrulyDue g
   step_truly step kept = by (step_acted treats_one f g is placed apart apart_then numbers step kept)
@@ -347,10 +357,12 @@ due_truly : (f g : ControlPlane) → IsPlan f.plan → ArePlaced f.plan f → Fi
     AreTrulyDue f → DueStep Loose f g → AreTrulyDue g
 due_truly f g is placed apart apart_then numbers all (Stepped told step sifted) =
     sifted_due told g sifted (step_truly f told is placed apart (λ pod i j x s t a b c d. apart_then pod i j x s t a b
-    (ap (λ (v : SwitchView). v.place.position) (sifted.alike.view s) ∙ c) (ap (λ (v : SwitchView). v.place.position) (sifted.alike.view t) ∙ d)) numbers all step.0 step.1)
+    (ap (λ (v : SwitchView). v.place.position) (sifted.alike.view s) ∙ c)
+    (ap (λ (v : SwitchView). v.place.position) (sifted.alike.view t) ∙ d)) numbers all step.0 step.1)
 due_truly f g is placed apart apart_then numbers all (ManagedBy mids parts) = through_parts AreTrulyDue part_due mids f g parts all
 
-pub truly_kept : (f g : ControlPlane) → IsPlan f.plan → GathersWell f → ArePlaced f.plan f → FixedAreApart f.plan f.view → FixedAreApart f.plan g.view → ArePodNumbers f →
+pub truly_kept : (f g : ControlPlane) → IsPlan f.plan → GathersWell f → ArePlaced f.plan f → FixedAreApart f.plan f.view → FixedAreApart f.plan g.view →
+    ArePodNumbers f →
     AreTrulyDue (due_plane f) → WholeStep Loose whole_rule f g → AreTrulyDue (due_plane g)
 truly_kept f g is well placed apart apart_then numbers all step =
     due_truly (due_plane f) (due_plane g) is
@@ -362,7 +374,8 @@ truly_nothing : (f g : ControlPlane) → Restarts f g → AreTrulyDue g
 truly_nothing f g restarts = record {
   said = λ t. elim (cases_lt t (switch_count f.plan.k)) [
     | inl there ↦ subst (AllByRecursion (IsPodGiven g.manager.pods (id_of g.plan t))) (sym (restarts.orders t there)) (tt, tt)
-    | inr beyond ↦ subst (AllByRecursion (IsPodGiven g.manager.pods (id_of g.plan t))) (sym (restarts.beyond t (λ less. absurd (omega (arith, less, beyond))))) tt
+    | inr beyond ↦ subst (AllByRecursion (IsPodGiven g.manager.pods (id_of g.plan t)))
+        (sym (restarts.beyond t (λ less. absurd (omega (arith, less, beyond))))) tt
   ];
   due = λ t id named. subst (IsTrulyDue g.manager.pods id (g.view t).place) (sym (restarts.reports t)) (record { words = tt; again = λ n knows. inr tt });
 }

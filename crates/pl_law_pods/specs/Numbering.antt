@@ -1,4 +1,4 @@
--- What the manager gave and was told, while no report is missing: numbers of pods are apart, and below how many pods there are.
+-- The numbers of pods in each epoch of the manager: those that switches know, those that the manager gave, what it was told of them and what is due.
 use Rattle.std.specs.Prelude.{◌≡◌, ◌<◌, ◌⊎◌, ℕ, Bool, true, false, List, [], ◌∷◌, ◌++◌, map, Option, Some, slice_get}
 use Rattle.std.specs.List.{AllByRecursion, IsDistinct}
 use Rattle.pl_frame.specs.declared.address.SwitchId.{SwitchId}
@@ -36,7 +36,8 @@ pub record IsToldPlace (plan : Plan) (view : ℕ → SwitchView) (told : SwitchI
   pub named : slice_get plan.ids switch ≡ Some told.0
   pub pod : (n : ℕ) → told.1.pod ≡ Some n → (view switch).place.pod ≡ Some n
 
--- Each switch was given one number at most, and no number is of two switches, whether they know it or were given it.
+-- What the manager gave and was told, while no report is missing: each switch was given one number at most, and no number is of two switches, whether they
+-- know it or were given it.
 pub record GivesApart (plan : Plan) (view : ℕ → SwitchView) (told : Told) (pods : List PodGiven) : Type 0 where
   pub apart : NumbersApart (id_of plan) (own_pods view) told pods
   pub once : IsDistinct same_switch (map (λ g. g.switch) pods)
@@ -49,11 +50,12 @@ IsWordOf place PodWanted = place.position ≡ Some 0
 IsWordOf place (TellPlace told) = (n : ℕ) → told.pod ≡ Some n → place.pod ≡ Some n
 IsWordOf place word = Unit {0}
 
+-- a place that is told has this pod
 abbrev pub IsPlaceWith : ℕ → ToManager → Type 0
 IsPlaceWith n (TellPlace told) = told.pod ≡ Some n
 IsPlaceWith n word = Unit {0}
 
--- What is due of a switch: a switch that knows a number that it was not given in this epoch told it in each place.
+-- What is due of a switch is true, and one that knows a number that it was not given in this epoch tells it in each place.
 pub record IsTrulyDue (pods : List PodGiven) (id : SwitchId) (place : Place) (due : List ToManager) : Type 0 where
   pub words : AllByRecursion (IsWordOf place) due
   pub again : (n : ℕ) → own_pod place ≡ Some n → (pod_given pods id ≡ Some n) ⊎ AllByRecursion (IsPlaceWith n) due

@@ -92,8 +92,8 @@ pub fn hearing_keeps_numbers_apart_and_below_the_number_of_pods()
     ensures asked { (plane : ControlPlane) (pods : List PodGiven) (told : Told) (s : ℕ) (id : SwitchId) → IsPlan plane.plan → ArePlaced plane.plan plane →
         FixedAreApart plane.plan plane.view → GivesApart plane.plan plane.view told pods → slice_get plane.plan.ids s ≡ Some id →
         (plane.view s).place.position ≡ Some 0 → own_pods plane.view s ≡ None → GivesApart plane.plan plane.view told (with_asker told pods id) }
-    ensures placed { (plane : ControlPlane) (pods : List PodGiven) (told : Told) (s : ℕ) (id : SwitchId) (place : Place) → IsPlan plane.plan → ArePlaced plane.plan plane →
-        FixedAreApart plane.plan plane.view → GivesApart plane.plan plane.view told pods → slice_get plane.plan.ids s ≡ Some id →
+    ensures placed { (plane : ControlPlane) (pods : List PodGiven) (told : Told) (s : ℕ) (id : SwitchId) (place : Place) → IsPlan plane.plan →
+        ArePlaced plane.plan plane → FixedAreApart plane.plan plane.view → GivesApart plane.plan plane.view told pods → slice_get plane.plan.ids s ≡ Some id →
         ((n : ℕ) → place.pod ≡ Some n → (plane.view s).place.pod ≡ Some n) →
         ((n : ℕ) → own_pods plane.view s ≡ Some n → (place.pod ≡ Some n) ⊎ (pod_given pods id ≡ Some n)) →
         GivesApart plane.plan plane.view (with_place told id place) pods }
@@ -141,5 +141,6 @@ pub fn numbers_in_order_are_known_apart()
 /// that it hears.
 pub fn the_tables_of_the_manager_stay_in_order()
     ensures first { (k : ℕ) → TablesAreInOrder (booted_manager k) }
-    ensures words { (before : ManagerView) (switch : SwitchId) (word : ToManager) → TablesAreInOrder before → TablesAreInOrder (manager_hears before switch word).view }
+    ensures words { (before : ManagerView) (switch : SwitchId) (word : ToManager) → TablesAreInOrder before →
+        TablesAreInOrder (manager_hears before switch word).view }
 {}

@@ -88,7 +88,8 @@ module _ {X : Type 0} (said : ToManager → Option X) (quiet : (told : ToManager
   others_say x [] = refl
   others_say x (w ∷ words) = by (waits_for_places w) refl (λ y. others_say y words)
     where
-      by : (b : Bool) → waits_for_places w ≡ b → ((y : X) → last_said said y (filter (λ word. not (waits_for_places word)) words) ≡ last_said said y words) →
+      by : (b : Bool) → waits_for_places w ≡ b →
+          ((y : X) → last_said said y (filter (λ word. not (waits_for_places word)) words) ≡ last_said said y words) →
           last_said said x (cond (not b) (w ∷ filter (λ word. not (waits_for_places word)) words) (filter (λ word. not (waits_for_places word)) words))
           ≡ last_said said x (w ∷ words)
       by true waits rest = rest x ∙ sym (passed x w words (wish_quiet w waits))
@@ -98,7 +99,8 @@ module _ {X : Type 0} (said : ToManager → Option X) (quiet : (told : ToManager
   wishes_say x [] = refl
   wishes_say x (w ∷ words) = by (waits_for_places w) refl (wishes_say x words)
     where
-      by : (b : Bool) → waits_for_places w ≡ b → last_said said x (filter waits_for_places words) ≡ x → last_said said x (cond b (w ∷ filter waits_for_places words) (filter waits_for_places words)) ≡ x
+      by : (b : Bool) → waits_for_places w ≡ b → last_said said x (filter waits_for_places words) ≡ x →
+          last_said said x (cond b (w ∷ filter waits_for_places words) (filter waits_for_places words)) ≡ x
       by true waits rest = passed x w (filter waits_for_places words) (wish_quiet w waits) ∙ rest
       by false other rest = rest
 

@@ -1,5 +1,5 @@
 -- What switches know of addresses is what the journal says of them.
-use Rattle.std.proofs.Common.{◌≡◌, ◌≤◌, ◌<◌, ◌-◌, ◌%◌, ◌^◌, ◌==◌, ◌&&◌, not, ℕ, Bool, true, false, List, [], ◌∷◌, length, reverse, Option, Some, None, option_map, slice_get, slice_index, refl, sym, ap, subst, subst₂, ◌∙◌, inl, inr, arith}
+use Rattle.std.proofs.Common.{◌≡◌, ◌≤◌, ◌<◌, ◌%◌, ◌^◌, ◌==◌, ◌&&◌, ℕ, Bool, true, false, List, [], ◌∷◌, length, reverse, Option, Some, None, option_map, slice_get, slice_index, refl, sym, ap, subst, subst₂, ◌∙◌, inl, inr, arith}
 use Rattle.std.specs.List.{AllByRecursion}
 use Rattle.std.proofs.lemmas.Bool.{and_from, and_parts, cases_Bool, cond-false, cond-true, eq-eqb, eqb-true, false≢true, ne_eqb}
 use Rattle.std.proofs.lemmas.Iterator.Adapters.{position_from-zero}
@@ -32,11 +32,11 @@ use Rattle.pl_world.specs.Changes.{host_of}
 use Rattle.pl_world.specs.Worlds.{WorldView}
 use Rattle.pl_law_control_plane.specs.ControlPlanes.{control_plane, no_switch}
 use Rattle.pl_law_phases.specs.Tenures.{is_held as is_held_there}
-use Rattle.pl_law_addresses.proofs.Exports.{first_passes, granted_here, known_same}
+use Rattle.pl_law_addresses.proofs.Exports.{first_passes, known_same}
 use Rattle.pl_law_invariant.specs.ControlInvariant.{ControlInvariant}
 use Rattle.pl_law_ledger.specs.Leading.{Leads}
 use Rattle.pl_law_ledger.specs.Ledgers.{IsBacked, IsGrantedThere, IsLedger, ledger}
-use Rattle.pl_law_ledger.proofs.Exports.{are_led, fits_there, grounds, held_somewhere, in_bounds, IsAlike, of_edge, same_says, Says, says}
+use Rattle.pl_law_ledger.proofs.Exports.{are_led, fits_there, grounds, held_somewhere, in_bounds, IsAlike, of_edge, same_says, Says}
 use Rattle.pl_law_flights.specs.OnTheWay.{history_of}
 use Rattle.pl_law_flights.specs.Standing.{IsGranted, IsNextAddress, KnowsAddresses, TrapLeadsOn, WasGranted}
 use Rattle.pl_law_flights.proofs.Exports.{host_unicast}

@@ -37,7 +37,7 @@ use Rattle.pl_law_addresses.specs.OwnFrames.{IsOwnItem}
 use Rattle.pl_law_addresses.proofs.Exports.{number_past, exists_at, granted_here, local_here, number_within, used_is}
 use Rattle.pl_law_invariant.specs.ControlInvariant.{ControlInvariant}
 use Rattle.pl_law_ledger.specs.Ledgers.{IsBacked, IsLedger, ledger}
-use Rattle.pl_law_ledger.proofs.Exports.{grounds, IsLast, same_says, Says, says, source_is, spent_there}
+use Rattle.pl_law_ledger.proofs.Exports.{grounds, IsLast, same_says, Says, source_is, spent_there}
 use Rattle.pl_law_flights.specs.Standing.{KnowsHosts, StandsOn, StandsOnHosts}
 use Rattle.pl_law_flights.proofs.Exports.{host_by_mac}
 use Rattle.pl_law_theorem.proofs.Addressing.{each_entry, fits_at, is_next, knows_addresses}

@@ -22,12 +22,13 @@ VERBS = {
     "sweep": ["N"],
     "settle": ["N"],
     "random": ["N M"],
+    "restart": [""],
     "expect": ["arrived H N", "dropped CAUSE N", "address H PMAC", "settled"],
 }
 SLIPS = {
     "wait": "settle", "sleep": "settle", "run": "settle", "ping": "send", "play": "send", "replay": "send", "up": "repair", "down": "fail",
     "restore": "repair", "break": "fail", "cut": "fail", "kill": "fail", "assert": "expect", "check": "expect", "boot": "start", "begin": "start",
-    "drop": "lose", "migrate": "move", "transmit": "send", "recover": "repair", "step": "sweep",
+    "drop": "lose", "migrate": "move", "transmit": "send", "recover": "repair", "step": "sweep", "reboot": "restart", "reset": "restart",
 }
 
 
@@ -92,7 +93,7 @@ def forms_of(verb):
         "join": [["H", "GROUP"]], "leave": [["H", "GROUP"]], "move": [["H", "S", (0, 255)]], "fail": [["S", "S"]], "repair": [["S", "S"]],
         "lose": [["S", "S"]], "deliver": [["X", "X"]], "tick": [["S"]], "sweep": [[(1, 10_000)]], "settle": [[(1, 10_000)]],
         "random": [[(0, BIG), (1, 50_000_000)]], "arrived": [["H", (0, BIG)]], "dropped": [["CAUSE", (0, BIG)]], "address": [["H", "PMAC"]],
-        "settled": [[]],
+        "settled": [[]], "restart": [[]],
     }
     return forms[verb]
 
@@ -104,6 +105,7 @@ def takes_all(verb, at):
 NOT_FOR_BRIDGES = {
     "repair": "a link that was left out of the tree of bridges stays out, since frames would go round for ever",
     "random": "what is drawn depends on queues that bridges do not have",
+    "restart": "bridges have no manager",
     "expect address": "bridges have no pseudo addresses",
     "expect settled": "bridges do not settle; `settle N` sweeps until all queues are empty",
 }
@@ -133,7 +135,7 @@ def line_fault(fabric, words):
 
 
 def forms_text(verb):
-    return ", or ".join(f"`{verb} {form}`" for form in VERBS[verb])
+    return ", or ".join(f"`{verb} {form}`".replace(" `", "`") for form in VERBS[verb])
 
 
 def verb_hint(verb):
@@ -151,6 +153,8 @@ def count_hint(words, before):
         return f"{forms_text(verb)}: one host a line"
     if verb in ("settle", "sweep") and len(words) == 1:
         return f"`{verb}` wants a number: `{verb} {64 if verb == 'settle' else 1}`"
+    if verb == "restart":
+        return "`restart` stands alone: the one manager begins anew"
     return f"this line wants {forms_text(verb)}; it has {len(words) - 1} words behind `{verb}`"
 
 

@@ -19,6 +19,7 @@ globalThis.Table = {
 | "placed SWITCH LEVEL POSITION POD" | "place_noted" | pl_world/SwitchActs |
 | "linkdown A B", "linkup A B" | "link_failed", "link_repaired" | pl_world/LinksAndMoves |
 | "moved HOST SWITCH PORT" | "host_moved" | pl_world/LinksAndMoves |
+| "restarted N" | "manager_restarted" | pl_world/Restarting |
 | cause of "dropped" | definition | file |
 |---|---|---|
 | "NotPlaced" | "comes_from_switch", "comes_from_host", "takes_in" | pl_switch_rule/SwitchRule, pl_switch_rule/Intake |

@@ -14,7 +14,7 @@ const EXPECTED = ["", "expected", "expected-bridge"]; // where a run's journal s
 const journalOf = folder => EXPECTED.map(name => path.join(folder, name, "journal.txt")).find(file => fs.existsSync(file));
 
 // the folders of stored runs that have a journal
-const folders = () => ["examples", "tests/fabric", "tests/bridge", "viewer/tests/runs"].flatMap(parent => fs.readdirSync(path.join(top, parent)).sort()
+const folders = () => ["examples", "tests/fabric", "tests/restart", "tests/bridge", "viewer/tests/runs"].flatMap(parent => fs.readdirSync(path.join(top, parent)).sort()
     .map(name => path.join(top, parent, name)).filter(folder => journalOf(folder)));
 
 // those of which each entry can be looked at whole

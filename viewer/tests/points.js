@@ -446,7 +446,7 @@ const packed_pages_open_at_a_moment = async browser => {
 };
 
 const aging_restarts_and_bridges_are_told = async browser => {
-    for (const name of ["viewer/tests/runs/address-given-again", "viewer/tests/runs/restart-after-aging", "tests/bridge/learnt"]) {
+    for (const name of ["viewer/tests/runs/address-given-again", "tests/restart/after-aging", "tests/bridge/learnt"]) {
         const run = await opened(browser, name);
         for (const word of ["freed", "restarted", "linkdown"]) {
             const entry = run.journal.split("\n").findIndex(line => line.startsWith(`${word} `)) + 1;

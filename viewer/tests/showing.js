@@ -13,6 +13,7 @@ const RULES = [
     ["examples/four-hosts", 10, "by `grants_next`", "crates/pl_switch_rule/specs/Granting.antt", ""],
     ["tests/fabric/link-fails-with-frames", 104, "`goes_out`, `link_failed`", "crates/pl_world/specs/LinksAndMoves.antt", "Look at the last `linkdown`"],
     ["viewer/tests/runs/address-given-again", 731, "by `frees`", "crates/pl_switch_rule/specs/Messages.antt", ""],
+    ["tests/restart/the-manager-restarts", 96, "`manager_restarted`", "crates/pl_world/specs/Restarting.antt", ""],
     ["tests/fabric/group", 133, "`no_way`", "crates/pl_switch_rule/specs/GroupForwarding.antt", "Look at the `join`"],
 ];
 
@@ -44,8 +45,8 @@ const a_copy_that_comes_back_says_why_it_ends = () => {
 // run, line of the journal, and what is said of it: aging, a manager that restarts, and a learning bridge
 const LATER = [
     ["viewer/tests/runs/address-given-again", "freed 00:01:00:00:00:01", "Switch e1.0 frees the pseudo address 00:01:00:00:00:01, which host d had: nobody uses it now, and port 0 may grant it again."],
-    ["viewer/tests/runs/restart-before-a-move-was-told", "restarted 1", "The fabric manager restarts, for the 1st time: it has forgotten all, what was on its way to it and from it is lost, and each switch tells it anew what it knows."],
-    ["viewer/tests/runs/restart-before-a-move-was-told", "registered 00:01:00:00:00:01 4294967301", "The fabric manager has learnt anew 00:01:00:00:00:01 of host d, with number 4294967301."],
+    ["tests/restart/before-a-move-was-told", "restarted 1", "The fabric manager restarts, for the 1st time: it has forgotten all, what was on its way to it and from it is lost, and each switch tells it anew what it knows."],
+    ["tests/restart/before-a-move-was-told", "registered 00:01:00:00:00:01 4294967301", "The fabric manager has learnt anew 00:01:00:00:00:01 of host d, with number 4294967301."],
     ["tests/bridge/learnt", "linkdown e0.0 a0.1", "The link between e0.0 and a0.1 is left out before the first line: a learning bridge wants a tree."],
     ["tests/bridge/a-link-of-the-tree-fails", "linkdown e1.0 a1.0", "The link between e1.0 and a1.0 fails."],
     ["tests/bridge/learnt", "settled 3", "A `settle` line ends after 3 sweeps: nothing waits in a queue."],
@@ -152,7 +153,7 @@ const inStep = name => {
 };
 
 const what_is_known_is_what_has_happened = () => {
-    const { run, journal } = open("viewer/tests/runs/restart-before-a-move-was-told");
+    const { run, journal } = open("tests/restart/before-a-move-was-told");
     const known = Knowledge.of(run);
     const lines = journal.split("\n");
     for (let now = 0; now <= run.count; now++) {

@@ -1,5 +1,5 @@
 -- Steps of a small world, whose switches, hosts and manager have rules of a line. Hosts a and b stand at ports 0 and 1 of e0.0.
-use Rattle.std.specs.Prelude.{◌≡◌, ℕ, false, List, [], ◌∷◌, Some, None, refl, slice_set}
+use Rattle.std.specs.Prelude.{◌≡◌, ℕ, true, false, List, [], ◌∷◌, Some, None, refl, replicate, slice_set}
 use Rattle.pl_wiring.specs.declared.label.SwitchNo.{SwitchNo}
 use Rattle.pl_wiring.specs.declared.link.Link.{Link}
 use Rattle.pl_node.specs.declared.acts.Act.{Act}
@@ -7,9 +7,11 @@ use Rattle.pl_node.specs.declared.acts.Act.TheVariants as act
 use Rattle.pl_node.specs.declared.acts.HostAct.TheVariants.{Send}
 use Rattle.pl_journal.specs.declared.cause.Cause.TheVariants as cause
 use Rattle.pl_journal.specs.declared.entry.Entry.{Entry}
-use Rattle.pl_journal.specs.declared.entry.Entry.TheVariants.{Arrived, Copied, Crossed, Dropped, LinkDown, Made, Moved, Redirected, Sent, Taken}
-use Rattle.pl_world.specs.declared.event.Event.TheVariants.{Deliver, Fail, Lose, Move, Repair}
+use Rattle.pl_journal.specs.declared.entry.Entry.TheVariants.{Arrived, Copied, Crossed, Dropped, LinkDown, Made, Moved, Redirected, Restarted, Sent, Taken}
+use Rattle.pl_world.specs.declared.event.Event.TheVariants.{Deliver, Fail, Lose, Move, Repair, Restart}
 use Rattle.pl_world.specs.declared.event.QueueName.TheVariants as queue
+use Rattle.pl_node.specs.declared.messages.ToManager.TheVariants.{PodWanted}
+use Rattle.pl_node.specs.declared.messages.ToSwitch.TheVariants.{Hello, Pod}
 use Rattle.pl_node.specs.declared.reception.Reception.TheVariants.{Kept}
 use Rattle.pl_layouts.specs.ArpFrames.{arp_frame}
 use Rattle.pl_examples.specs.ExampleFrames.{mac_a, pmac_a, pmac_b}
@@ -154,6 +156,34 @@ there_is_no_port_4 : refusal start (Deliver (queue.Port e00 4)) ≡ Some NoSuch
 there_is_no_port_4 = refl
 
 -- no link joins e0.0 and e0.1
+-- A word waits to the manager and one from it, and a frame at its host.
+abbrev pub words_wait : WorldView
+words_wait = record a_has_sent {
+  manager = record start.manager { members = ((record { 0 = 1 }, 256), true) ∷ [] };
+  to_manager = slice_set start.to_manager 0 (PodWanted ∷ []);
+  from_manager = slice_set start.from_manager 8 (Pod 0 ∷ []);
+}
+
+-- the manager begins anew for the first time
+abbrev pub manager_began_anew : WorldView
+manager_began_anew = record a_has_sent {
+  manager = record start.manager { epoch = 1; learnt = record { addresses = []; reported = []; owners = []; count = 4294967296 } };
+  from_manager = replicate 20 (Hello 1 ∷ []);
+  journal = Sent 1 a a_starts ∷ Restarted 1 ∷ [];
+  steps = 1;
+}
+
+a_manager_that_begins_anew_loses_the_words_that_wait_and_no_frame : WorldStep PassesOn ManagerRests Keeps words_wait Restart manager_began_anew
+unfolding arp_frame
+a_manager_that_begins_anew_loses_the_words_that_wait_and_no_frame = refl
+
+that_it_begins_anew_is_not_refused : refusal words_wait Restart ≡ None
+unfolding arp_frame
+that_it_begins_anew_is_not_refused = refl
+
+but_for_a_limit : refusal (record start { steps = 100 }) Restart ≡ Some StepsSpent
+but_for_a_limit = refl
+
 what_is_not_linked_does_not_fail : refusal start (Fail e00 e01) ≡ Some NoSuch
 what_is_not_linked_does_not_fail = refl
 

@@ -1,9 +1,10 @@
 -- When a fabric is settled: nothing would change what its switches and its manager know of places and links.
-use Rattle.std.specs.Prelude.{◌≡◌, ◌<◌, ℕ, ◌/◌, ◌==◌, ◌&&◌, ◌||◌, not, nat_lt, Bool, true, false, Option, Some, None, slice_get, [], ◌∷◌, refl}
+use Rattle.std.specs.Prelude.{◌≡◌, ◌<◌, ℕ, ◌/◌, ◌==◌, ◌&&◌, ◌||◌, not, nat_le, nat_lt, Bool, true, false, Option, Some, None, length, slice_get, [], ◌∷◌, refl}
 use Rattle.std.specs.List.{list_any, range_with_len}
 use Rattle.pl_frame.specs.declared.address.SwitchId.{SwitchId}
 use Rattle.pl_wiring.specs.declared.link.Peer.{Peer}
 use Rattle.pl_wiring.specs.declared.link.Peer.TheVariants.{HostPort, Switch}
+use Rattle.pl_wiring.specs.Labels.{switch_count}
 use Rattle.pl_wiring.specs.LiveLinks.{is_live_at}
 use Rattle.pl_wiring.specs.Peers.{peer_of}
 use Rattle.pl_layouts.specs.Placement.{is_known}
@@ -67,6 +68,10 @@ group_limit = 4294967296
 abbrev pub HasPart : ManagerView → SwitchView → ℕ → Type 0
 HasPart manager v group = part_of v group ≡ tree_part manager.told manager.members group v.id
 
+-- no report of a switch is missing; in the first epoch there are none
+abbrev pub has_reports : ManagerView → ℕ → Bool
+has_reports manager many = (manager.epoch == 0) || nat_le many (length manager.ended)
+
 -- Switch number s, which knows v.
 pub record IsSettledSwitch (w : WorldView) (s : ℕ) (v : SwitchView) : Type 0 where
   -- 3, 4 and 5, at each of its links
@@ -77,13 +82,17 @@ pub record IsSettledSwitch (w : WorldView) (s : ℕ) (v : SwitchView) : Type 0 w
   pub avoids : v.avoid ≡ avoid_list w.manager.told v.id
   pub groups : (n group : ℕ) → n < group_limit → group_at w.manager n ≡ Some group → HasPart w.manager v group
   pub parts : (n group : ℕ) → n < group_limit → group_of_part v n ≡ Some group → HasPart w.manager v group
+  -- 6. It has heard of the manager's epoch.
+  pub epoch : v.epoch ≡ w.manager.epoch
 
 pub record IsSettled (w : WorldView) : Type 0 where
   -- 1. Each control frame in a queue is what its sender would send there now. 2. No message to or from the manager waits but the questions
   -- of hosts and what they bring about.
   pub queues : HasSettledQueues w
-  -- 3, 4 and 5.
+  -- 3, 4, 5 and 6.
   pub switches : (s : ℕ) (v : SwitchView) → slice_get w.switches s ≡ Some v → IsSettledSwitch w s v
+  -- 6. And the manager, if it ever began anew, has heard the report of each switch to its end.
+  pub reports : has_reports w.manager (switch_count w.plan.k) ≡ true
 
 -- Edge switch 5 at its first attempt. It is news that the position is free, that switch 4 holds it, or that it is fixed for switch 6. It is
 -- none that switch 6 holds it, which has the larger id.

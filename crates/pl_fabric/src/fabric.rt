@@ -1,7 +1,8 @@
 ghost use Rattle.std.specs.Prelude.{◌≡◌, ◌↔◌, ℕ, IsTrue, Some, slice_get};
+ghost use Rattle.pl_wiring.specs.Labels.{switch_count};
 ghost use Rattle.pl_node.specs.SwitchViews.{SwitchView};
 ghost use Rattle.pl_world.specs.Flying.{IsCounted};
-ghost use Rattle.pl_fabric.specs.Settled.{IsSettled, IsSettledSwitch};
+ghost use Rattle.pl_fabric.specs.Settled.{IsSettled, IsSettledSwitch, has_reports};
 
 use crate::switches::is_settled_switch;
 use pl_node::{HostLogic, ManagerLogic, SwitchLogic};
@@ -22,6 +23,15 @@ fn are_settled_switches<S: SwitchLogic, M: ManagerLogic, H: HostLogic>(
     true
 }
 
+// Whether no report of a switch is missing.
+fn has_reports<S: SwitchLogic, M: ManagerLogic, H: HostLogic>(world: &World<S, M, H>) -> bool
+    ensures { result ≡ has_reports world.now.manager (switch_count world.now.plan.k) }
+{
+    let manager = world.manager();
+    let _k = world.wiring().k();
+    manager.epoch() == 0 || world.wiring().switch_count() as usize <= manager.reported()
+}
+
 /// Whether the fabric is settled: nothing would change what its switches and its manager know of places
 /// and links. Takes no memory. What waits in queues is asked first, by a count that is kept; then each
 /// port, record and list is looked at once.
@@ -29,6 +39,9 @@ pub fn settled<S: SwitchLogic, M: ManagerLogic, H: HostLogic>(world: &World<S, M
     requires { IsCounted world.now }
     ensures { IsTrue result ↔ IsSettled world.now }
 {
+    if !has_reports(world) {
+        return false;
+    }
     if world.pending() == 0 {
         are_settled_switches(world)
     } else {

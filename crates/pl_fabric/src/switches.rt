@@ -127,6 +127,12 @@ fn avoids_as_told<S: SwitchFacts, M: ManagerLogic>(manager: &M, switch: &S) -> b
     is_same_list(switch.avoid_list(), manager.avoid_list(switch.id()))
 }
 
+fn is_of_epoch<S: SwitchFacts, M: ManagerLogic>(manager: &M, switch: &S) -> bool
+    ensures { IsTrue result ↔ ((S.view switch.now).epoch ≡ (M.view manager.now).epoch) }
+{
+    switch.epoch() == manager.epoch()
+}
+
 /// Whether nothing would change what a switch knows, and what the manager was told of it.
 pub(crate) fn is_settled_switch<S: SwitchLogic, M: ManagerLogic, H: HostLogic>(
     world: &World<S, M, H>,
@@ -148,6 +154,9 @@ pub(crate) fn is_settled_switch<S: SwitchLogic, M: ManagerLogic, H: HostLogic>(
         return false;
     }
     if !has_its_parts(manager, switch) {
+        return false;
+    }
+    if !is_of_epoch(manager, switch) {
         return false;
     }
     are_settled_ports(world, s)

@@ -1,5 +1,5 @@
--- Each event keeps addresses in order.
-use Rattle.std.proofs.Common.{◌≡◌, ◌<◌, ◌+◌, ℕ, true, set, Contains, List, [], ◌∷◌, length, Option, Some, None, slice_get, refl, sym, ap, subst, ◌∙◌, get_or-set_same, get_or-set_other, length-set}
+-- Each event keeps grants in order, whatever the manager's rule is.
+use Rattle.std.proofs.Common.{◌≡◌, ◌<◌, ◌+◌, ℕ, true, set, Contains, List, [], ◌∷◌, length, Option, Some, None, slice_get, refl, sym, ap, subst, ◌∙◌, length-set}
 use Rattle.std.specs.List.{AllByRecursion}
 use Rattle.std.proofs.lemmas.Bool.{false≢true}
 use Rattle.std.proofs.lemmas.List.Elements.{Contains-append_left, Contains-push}
@@ -15,6 +15,7 @@ use Rattle.pl_node.specs.HostDuties.{HoldsData, HostsSendData, HostsSendOwn}
 use Rattle.pl_node.specs.HostInputs.{HostAnswer, HostInput, HostRule}
 use Rattle.pl_node.specs.HostInputs.HostAnswer.{Nothing}
 use Rattle.pl_node.specs.HostInputs.HostInput.{HasMoved}
+use Rattle.pl_node.specs.ManagerDuties.{ManagerRule}
 use Rattle.pl_node.specs.PortRecords.{is_open_to_hosts, port_of}
 use Rattle.pl_node.specs.SwitchInputs.SwitchInput.{Comes, Says, Tick}
 use Rattle.pl_node.specs.SwitchViews.{SwitchView}
@@ -22,11 +23,10 @@ use Rattle.pl_frame.specs.Ethernet.{source_of}
 use Rattle.pl_journal.specs.declared.entry.Entry.TheVariants.{Crossed, Dropped, Moved}
 use Rattle.pl_journal.specs.declared.cause.Cause.{Cause}
 use Rattle.pl_journal.specs.declared.cause.Cause.TheVariants as cause
-use Rattle.pl_manager_rule.specs.ManagerRule.{manager_rule}
 use Rattle.pl_queues.specs.Queues.{items_at}
 use Rattle.pl_queues.proofs.Exports.{all_items_at}
 use Rattle.pl_switch_rule.specs.Granting.{sender_ip}
-use Rattle.pl_switch_rule.specs.SwitchRule.{Loose, switch_step}
+use Rattle.pl_switch_rule.specs.SwitchRule.{Loose}
 use Rattle.pl_world.specs.declared.event.Event.{Event}
 use Rattle.pl_world.specs.declared.item.Item.{Item}
 use Rattle.pl_world.specs.declared.item.Item.TheVariants.{Control, Data}
@@ -39,24 +39,21 @@ use Rattle.pl_world.specs.LinksAndMoves.{host_moved}
 use Rattle.pl_world.specs.OtherActs.{heard_after_tick, reception_noted, skip_noted}
 use Rattle.pl_world.specs.WorldRule.{ComesAtHost, ComesAtSwitch, ComesOut, Happens, HostTurn, SwitchTurn, heard_item}
 use Rattle.pl_world.specs.Worlds.{WorldView}
-use Rattle.pl_world.proofs.Exports.{emptied_out_left, failed_left, Happened, happened, lost_left, reception_left, repaired_left, skip_left, Writes}
-use Rattle.pl_world.proofs.Exports.Happened.{Asked, Departed, Failed, FromHost, Lost, Ordered, OutOfPort, OverLink, PlayedFrame, Repaired, Reported, Ticked}
+use Rattle.pl_world.proofs.Exports.{anew_left, emptied_out_left, failed_left, Happened, happened, lost_left, manager_acts_left, reception_left, repaired_left, skip_left, Writes}
+use Rattle.pl_world.proofs.Exports.Happened.{Asked, BeganAnew, Departed, Failed, FromHost, Lost, Ordered, OutOfPort, OverLink, PlayedFrame, Repaired, Reported, Ticked}
 use Rattle.pl_law_addresses.specs.OwnAddresses.{IsOwnIp, own_ip}
 use Rattle.pl_law_addresses.specs.OwnFrames.{IsOwnItem}
-use Rattle.pl_law_addresses.specs.Registries.{registry_of}
 use Rattle.pl_law_addresses.specs.Addressed.{AreApart, KnowNeighbours}
 use Rattle.pl_law_addresses.proofs.OwnHosts.{own_frame, shorter_own}
-use Rattle.pl_law_addresses.proofs.SwitchSteps.{Brings, IsOfHost, brings_frame, brings_order, brings_tick}
+use Rattle.pl_law_addresses.proofs.SwitchSteps.{IsOfHost, brings_frame, brings_order, brings_tick}
 use Rattle.pl_law_addresses.proofs.TurnQueues.{Parts, one_quiet, parts_of}
 use Rattle.pl_law_addresses.proofs.Entries.{IsNoAddressEntry, quiet_ends, quiet_freed, quiet_times}
-use Rattle.pl_law_addresses.proofs.TurnsKeepAddresses.{Earlier, InOrder, delivers_to_manager, exists_at, filled_within, host_turn, switch_turn}
+use Rattle.pl_law_addresses.proofs.TurnsKeepAddresses.{Earlier, InOrder, exists_at, filled_within, host_turn, switch_turn}
 
 -- what is known of the forms of a world
 pub record Facts (w : WorldView) : Type 0 where
   pub plan : IsPlan w.plan
-  pub ups : length w.to_manager ≡ length w.switches
   pub ids : length w.switches ≡ length w.plan.ids
-  pub downs : length w.from_manager ≡ length w.plan.ids
   pub froms : length w.from_hosts ≡ length w.hosts
   pub hosts : length w.hosts ≡ length w.plan.hosts
   pub ports : AllByRecursion (λ v. v.k ≡ w.plan.k) w.switches
@@ -68,9 +65,7 @@ pub record Facts (w : WorldView) : Type 0 where
 pub facts_of : (w : WorldView) → IsCounted w → Facts (record w { steps = w.steps + 1 })
 facts_of w is = record {
   plan = is.formed.plan;
-  ups = is.formed.to_manager ∙ sym is.formed.switches;
   ids = is.formed.switches ∙ sym is.formed.plan.ids_many;
-  downs = is.formed.from_manager ∙ sym is.formed.plan.ids_many;
   froms = is.formed.from_hosts ∙ sym is.formed.hosts;
   hosts = is.formed.hosts;
   ports = is.formed.ports;
@@ -104,19 +99,17 @@ moved_same u h from to =
 
 module _ (first : Earlier) where
   -- ---- an item comes at a switch
-  comes_at : (w : WorldView) (s port : ℕ) (item : Item) (new : WorldView) → InOrder first (parts_of w) → length w.to_manager ≡ length w.switches → AreApart new.switches → IsItem item →
+  comes_at : (w : WorldView) (s port : ℕ) (item : Item) (new : WorldView) → InOrder first (parts_of w) → AreApart new.switches → IsItem item →
       ((id : ℕ) (frame : List ℕ) → item ≡ Data id frame → (v : SwitchView) → slice_get w.switches s ≡ Some v → is_open_to_hosts (port_of v port) ≡ true →
       IsOfHost (λ mac. own_ip w.plan mac) v port frame) →
       ComesAtSwitch Loose w s port item new → InOrder first (parts_of new)
-  comes_at w s port (Control frame) new o many apart is fair turn =
-      switch_turn first w s (Comes port frame) _ new w.from_manager o (λ t other. refl) many apart
-      (λ v found choose. brings_frame (λ mac. own_ip w.plan mac) (registry_of w.manager.learnt) (slice_get w.plan.ids s) choose (items_at w.from_manager s) v port frame
-      (λ control host. absurd (false≢true (sym control ∙ is.kind)))) turn
-  comes_at w s port (Data id frame) new o many apart is fair turn =
-      switch_turn first (noted w (Crossed id (switch_no s))) s (Comes port frame) _ new w.from_manager
-      (subst (λ (p : Parts). InOrder first p) (sym (one_quiet w (Crossed id (switch_no s)) (λ x. refl))) o) (λ t other. refl) many apart
-      (λ v found choose. brings_frame (λ mac. own_ip w.plan mac) (registry_of w.manager.learnt) (slice_get w.plan.ids s) choose (items_at w.from_manager s) v port frame
-      (λ control host. fair id frame refl v found host)) turn
+  comes_at w s port (Control frame) new o apart is fair turn =
+      switch_turn first w s (Comes port frame) _ new o apart
+      (λ v found choose. brings_frame (λ mac. own_ip w.plan mac) choose v port frame (λ control host. absurd (false≢true (sym control ∙ is.kind)))) turn
+  comes_at w s port (Data id frame) new o apart is fair turn =
+      switch_turn first (noted w (Crossed id (switch_no s))) s (Comes port frame) _ new
+      (subst (λ (p : Parts). InOrder first p) (sym (one_quiet w (Crossed id (switch_no s)) (λ x. refl))) o) apart
+      (λ v found choose. brings_frame (λ mac. own_ip w.plan mac) choose v port frame (λ control host. fair id frame refl v found host)) turn
 
   data_is_item : (item : Item) → IsDataItem item → IsItem item
   data_is_item (Control frame) is = absurd is
@@ -139,14 +132,14 @@ module _ (first : Earlier) where
         let frames = (subst (λ (xs : List Item). AllByRecursion IsDataItem xs) head (all_items_at IsDataItem w.from_hosts h f.host_items)).0 in
         let popped : WorldView = record w { from_hosts = set w.from_hosts h items } in
         let order : InOrder first (parts_of popped) = record {
-          addressed = o.addressed;
+          tables = o.tables;
           own = shorter_own w.plan w.hosts w.from_hosts h items (λ P all. (subst (λ (xs : List Item). AllByRecursion P xs) head all).1) within o.own;
           since = o.since;
           rises = o.rises;
           given = o.given;
           once = o.once;
         } in
-        comes_at (heard_item popped h (Data id frame)) attachment.edge.0 attachment.port (Data id frame) new order f.ups apart frames
+        comes_at (heard_item popped h (Data id frame)) attachment.edge.0 attachment.port (Data id frame) new order apart frames
         (λ n bytes same v found host_port. record {
           within = subst (λ n. attachment.port < n) (sym (all_found (λ (v : SwitchView). v.k ≡ w.plan.k) w.switches attachment.edge.0 v f.ports found))
               (all_found (IsTreePort w.plan.k) w.attachments h attachment f.at_ports is).port;
@@ -184,29 +177,25 @@ module _ (first : Earlier) where
       over_link s port q item items to new head know apart peer comes =
           let all = (subst (λ (xs : List Item). AllByRecursion IsItem xs) head (all_items_at IsItem w.out (port_index w.plan.k s port) f.port_items)).0 in
           comes_at (record w { out = set w.out (port_index w.plan.k s port) items }) to.0 q item new
-          (record { addressed = o.addressed; own = o.own; since = o.since; rises = o.rises; given = o.given; once = o.once }) f.ups apart all
+          (record { tables = o.tables; own = o.own; since = o.since; rises = o.rises; given = o.given; once = o.once }) apart all
           (λ id frame same v found host_port.
           absurd (false≢true (sym (know s port to q id frame v peer
           (subst (λ (xs : List Item). Contains xs (Data id frame)) (sym head) (subst (λ (i : Item). Contains (item ∷ items) i) same (Contains-append_left (item ∷ []) items item (Contains-push [] item)))) found) ∙ host_port))) comes
 
       -- ---- from the manager
-      from_manager : (s : ℕ) (says : ToSwitch) (items : List ToSwitch) (new : WorldView) → items_at w.from_manager s ≡ says ∷ items → AreApart new.switches →
+      from_manager : (s : ℕ) (says : ToSwitch) (items : List ToSwitch) (new : WorldView) → AreApart new.switches →
           SwitchTurn Loose (record w { from_manager = set w.from_manager s items }) s (Says says) Silent new → InOrder first (parts_of new)
-      from_manager s says items new is apart turn =
-          let u : WorldView = record w { from_manager = set w.from_manager s items } in
-          let within = filled_within w.from_manager s says items is in
-          let now : items_at (set w.from_manager s items) s ≡ items = get_or-set_same w.from_manager s items [] within in
-          switch_turn first u s (Says says) _ new w.from_manager (record { addressed = o.addressed; own = o.own; since = o.since; rises = o.rises; given = o.given; once = o.once }) (λ t other. get_or-set_other w.from_manager s t items [] other) f.ups apart
-          (λ v found choose.
-          subst (λ (xs : List ToSwitch). Brings (λ mac. own_ip w.plan mac) (registry_of w.manager.learnt) (slice_get w.plan.ids s) choose xs (items_at u.from_manager s) v (switch_step choose v (Says says))) (sym is)
-          (subst (λ (xs : List ToSwitch). Brings (λ mac. own_ip w.plan mac) (registry_of w.manager.learnt) (slice_get w.plan.ids s) choose (says ∷ items) xs v (switch_step choose v (Says says))) (sym now)
-          (brings_order (λ mac. own_ip w.plan mac) (registry_of w.manager.learnt) (slice_get w.plan.ids s) choose items v says))) turn
+      from_manager s says items new apart turn =
+          switch_turn first (record w { from_manager = set w.from_manager s items }) s (Says says) _ new
+          (record { tables = o.tables; own = o.own; since = o.since; rises = o.rises; given = o.given; once = o.once }) apart
+          (λ v found choose. brings_order (λ mac. own_ip w.plan mac) choose v says) turn
 
       -- ---- all else
       ticks_on : (s : ℕ) (new : WorldView) → AreApart new.switches → SwitchTurn Loose (record w { heard = heard_after_tick s w.attachments w.heard }) s Tick Silent new → InOrder first (parts_of new)
       ticks_on s new apart turn =
-          switch_turn first (record w { heard = heard_after_tick s w.attachments w.heard }) s Tick _ new w.from_manager (record { addressed = o.addressed; own = o.own; since = o.since; rises = o.rises; given = o.given; once = o.once }) (λ t other. refl) f.ups apart
-          (λ v found choose. brings_tick (λ mac. own_ip w.plan mac) (registry_of w.manager.learnt) (slice_get w.plan.ids s) choose (items_at w.from_manager s) v) turn
+          switch_turn first (record w { heard = heard_after_tick s w.attachments w.heard }) s Tick _ new
+          (record { tables = o.tables; own = o.own; since = o.since; rises = o.rises; given = o.given; once = o.once }) apart
+          (λ v found choose. brings_tick (λ mac. own_ip w.plan mac) choose v) turn
 
       -- where these parts are the same
       still : (u : WorldView) → parts_of u ≡ parts_of w → InOrder first (parts_of u)
@@ -217,17 +206,26 @@ module _ (first : Earlier) where
           let within : h < length w.from_hosts = subst (λ n. h < n) (sym f.froms) (slice_get_within w.hosts h turn.before turn.found) in
           host_turn first rule sends owns (host_moved w h from to) h _ _ new
           (subst (λ (p : Parts). InOrder first p) (sym (moved_same w h from to))
-          (record { addressed = o.addressed; own = shorter_own w.plan w.hosts w.from_hosts h [] (λ P all. tt) within o.own; since = o.since; rises = o.rises; given = o.given; once = o.once })) f.holding
+          (record {
+            tables = o.tables;
+            own = shorter_own w.plan w.hosts w.from_hosts h [] (λ P all. tt) within o.own;
+            since = o.since;
+            rises = o.rises;
+            given = o.given;
+            once = o.once;
+          })) f.holding
           (length-set w.from_hosts h [] ∙ f.froms) turn
 
-      module _ (e : Event) (new : WorldView) (know : KnowNeighbours w) (before : AreApart w.switches) (apart : AreApart new.switches) where
-        by_case : Happened Loose manager_rule rule w e new → InOrder first (parts_of new)
+      module _ (manager : ManagerRule) (e : Event) (new : WorldView) (know : KnowNeighbours w) (apart : AreApart new.switches) where
+        by_case : Happened Loose manager rule w e new → InOrder first (parts_of new)
         by_case (FromHost h item items attachment is head at comes) = from_host h.0 item items attachment new head apart at comes
         by_case (OverLink s port item items t q is head joined comes) = over_link s.0 port q item items t new head know apart joined comes
         by_case (OutOfPort s port item items is head joined comes) =
             comes_out (record w { out = set w.out (port_index w.plan.k s.0 port) items }) s.0 port item new refl comes
-        by_case (Reported s told items is head turn) = delivers_to_manager first w f.plan o f.ups f.ids f.downs before s.0 (told ∷ items) new head turn
-        by_case (Ordered s says items is head turn) = from_manager s.0 says items new head apart turn
+        by_case (Reported s told items is head turn) =
+            still new (manager_acts_left SameParts IsNoAddressEntry same_writes (λ pmac n x. refl) (λ u t says. refl) manager
+            (record w { to_manager = set w.to_manager s.0 items }) s.0 told new turn)
+        by_case (Ordered s says items is head turn) = from_manager s.0 says items new apart turn
         by_case (Ticked s is turn) = ticks_on s.0 new apart turn
         by_case (Failed a b link is found fails) =
             still new (ap parts_of fails ∙ failed_left SameParts IsNoAddressEntry same_writes (λ u i. refl) w link (λ x. refl) (λ u links. refl))
@@ -240,6 +238,7 @@ module _ (first : Earlier) where
         by_case (PlayedFrame h input skip is turn) =
             a_host (skip_noted w h.0 skip) h.0 _ _ new (skip_left SameParts IsNoAddressEntry same_writes (λ g why x. refl) w h.0 skip) turn
         by_case (Asked h input is turn) = a_host w h.0 _ _ new refl turn
+        by_case (BeganAnew is anew) = still new (ap parts_of anew ∙ anew_left SameParts IsNoAddressEntry same_writes w (λ x. refl) (λ u n. refl))
 
-        pub happens_in_order : Happens Loose manager_rule rule w e new → InOrder first (parts_of new)
-        happens_in_order does = by_case (happened Loose manager_rule rule w e new does)
+        pub happens_in_order : Happens Loose manager rule w e new → InOrder first (parts_of new)
+        happens_in_order does = by_case (happened Loose manager rule w e new does)

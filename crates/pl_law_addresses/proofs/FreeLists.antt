@@ -6,15 +6,16 @@ use Rattle.std.proofs.lemmas.List.Folds.{list_any-append}
 use Rattle.std.proofs.lemmas.Option.{none-some, same_Some}
 use Rattle.pl_frame.specs.declared.address.Ip4.{Ip4}
 use Rattle.pl_frame.specs.declared.address.Mac.{Mac}
-use Rattle.pl_node.specs.AddressUses.{is_held}
+use Rattle.pl_node.specs.AddressUses.{is_held, is_in_use}
+use Rattle.pl_node.specs.declared.address_use.AddressUse.{AddressUse}
+use Rattle.pl_node.specs.declared.address_use.AddressUse.TheVariants.{Free, InUse, Resting, Trapped}
 use Rattle.pl_node.specs.declared.switch_records.Grant.{Grant}
 use Rattle.pl_node.specs.declared.switch_records.Source.{Source}
 use Rattle.pl_layouts.specs.declared.place.Place.{Place}
 use Rattle.pl_node.specs.SwitchViews.{SwitchView}
 use Rattle.pl_switch_rule.specs.Granting.{all_but_first, freed_at, grant_number, grants_at, next_vmid, with_grants, with_next}
-use Rattle.pl_law_phases.specs.Tenures.{is_held as is_held_there}
 use Rattle.pl_law_addresses.specs.FreeVmids.{AreFreeVmids, AreOnce, is_free, is_in}
-use Rattle.pl_law_addresses.specs.EdgeAddresses.{IsGoodAddressTable, is_settled}
+use Rattle.pl_law_addresses.specs.EdgeAddresses.{IsGoodAddressTable, is_held as is_held_there, is_settled}
 use Rattle.pl_law_addresses.proofs.GrantsByNumber.{number_past, number_push_other, number_push_same, number_set_other, number_set_same, number_within}
 
 -- ---- truth values
@@ -180,3 +181,10 @@ module _ (own : Mac → Option Ip4) (v : SwitchView) (port : ℕ) (grants : List
     ];
     sources = b.sources;
   }
+
+-- what is in use has been idle for so many ticks
+pub in_use_for : (h : AddressUse) → is_in_use h ≡ true → (idle : ℕ) × (h ≡ InUse idle)
+in_use_for (InUse idle) is = (idle, refl)
+in_use_for (Trapped trap age) is = absurd (false≢true is)
+in_use_for (Resting number) is = absurd (false≢true is)
+in_use_for Free is = absurd (false≢true is)

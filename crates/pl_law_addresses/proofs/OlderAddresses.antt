@@ -1,20 +1,15 @@
 -- A tick makes the addresses of an edge switch older, and some rest from then on.
-use Rattle.std.proofs.Common.{◌≡◌, ◌<◌, ◌+◌, ◌-◌, ◌==◌, ℕ, zero, suc, not, Bool, true, false, cond, set, List, [], ◌∷◌, ◌++◌, length, map, Option, Some, None, slice_get, refl, sym, ap, subst, ◌∙◌, arith, append-nil}
+use Rattle.std.proofs.Common.{◌≡◌, ◌<◌, ◌-◌, ◌==◌, ℕ, zero, suc, not, Bool, true, false, cond, set, List, [], ◌∷◌, length, map, Option, Some, None, slice_get, refl, sym, ap, subst, ◌∙◌, arith}
 use Rattle.std.specs.Option.{option_map}
-use Rattle.std.proofs.lemmas.Bool.{false≢true}
 use Rattle.std.proofs.lemmas.List.{length-map}
 use Rattle.std.proofs.lemmas.Option.{none-some, same_Some}
 use Rattle.pl_frame.specs.declared.address.Ip4.{Ip4}
 use Rattle.pl_frame.specs.declared.address.Mac.{Mac}
-use Rattle.pl_frame.specs.declared.address.SwitchId.{SwitchId}
 use Rattle.pl_pmac.specs.declared.pmac.Pmac.{Pmac}
 use Rattle.pl_layouts.specs.Equality.{same_pmac}
 use Rattle.pl_node.specs.AddressUses.{is_held, is_in_use, standing_trap}
 use Rattle.pl_node.specs.declared.address_use.AddressUse.{AddressUse}
 use Rattle.pl_node.specs.declared.address_use.AddressUse.TheVariants.{Free, InUse, Resting, Trapped}
-use Rattle.pl_node.specs.declared.messages.ToManager.{ToManager}
-use Rattle.pl_node.specs.declared.messages.ToManager.TheVariants as tell
-use Rattle.pl_node.specs.declared.messages.ToSwitch.{ToSwitch}
 use Rattle.pl_node.specs.declared.switch_records.Grant.{Grant}
 use Rattle.pl_node.specs.SwitchViews.{SwitchView}
 use Rattle.pl_steps.specs.Steps.{SwitchStep, does, ◌▹◌}
@@ -22,25 +17,14 @@ use Rattle.pl_switch_rule.specs.Aging.{ages, ages_out, ages_out_of, all_age_out,
 use Rattle.pl_switch_rule.specs.Announcing.{tells_neighbours, ticks}
 use Rattle.pl_switch_rule.specs.Granting.{freed_at, grant_number, granted, grants_at, is_local, with_grants}
 use Rattle.pl_switch_rule.proofs.Exports.{granted_parts, idle_acts, IsAnyPort, older_at}
-use Rattle.pl_law_phases.specs.Phases.{Phase}
-use Rattle.pl_law_phases.specs.Tenures.{Tenure}
-use Rattle.pl_law_phases.proofs.Exports.{ends_phase, older_phase, rests_phase, used_phase}
-use Rattle.pl_law_phases.specs.Tenures.Told.{Ages}
 use Rattle.pl_law_addresses.specs.FreeVmids.{AreFreeVmids, is_free}
-use Rattle.pl_law_addresses.specs.Registries.{Registry}
-use Rattle.pl_law_addresses.specs.EdgeAddresses.{IsGoodAddressTable, IsGoodGrant, KeepsHolders, edge_of, tenure_at}
-use Rattle.pl_law_addresses.proofs.AddressLemmas.{other_turned}
+use Rattle.pl_law_addresses.specs.EdgeAddresses.{IsGoodAddressTable, KeepsHolders}
 use Rattle.pl_law_addresses.proofs.Asides.{tells_aside}
-use Rattle.pl_law_addresses.proofs.ChangesKeepAddresses.{StaysTo, changed, keeps_holders, orders_kept, words_kept}
 use Rattle.pl_law_addresses.proofs.FreeLists.{as_free, held_free, table_alike, table_with_grants}
 use Rattle.pl_law_addresses.proofs.GrantsByNumber.{granted_within, local_settled, now_at, number_set_other, number_set_same, number_within, others_at}
-use Rattle.pl_law_addresses.proofs.PhasesStay.{other_aged, phase_rests}
-use Rattle.pl_law_addresses.proofs.RowsLeaveAddresses.{Good, IsSilent, Keeps, LeavesAddresses, aside_does, aside_keeps, keeps_then, rests_keeps}
+use Rattle.pl_law_addresses.proofs.RowsLeaveAddresses.{IsSilent, Keeps, LeavesAddresses, StaysTo, aside_does, aside_keeps, keeps_holders, keeps_then, rests_keeps}
 
 -- ---- all are older
-abbrev older_held : Option AddressUse → Option AddressUse
-older_held o = option_map older o
-
 pub use_still : (h : AddressUse) → is_in_use (older h) ≡ is_in_use h
 use_still (InUse idle) = refl
 use_still (Trapped trap age) = refl
@@ -58,20 +42,6 @@ trap_still (InUse idle) = refl
 trap_still (Trapped trap age) = refl
 trap_still (Resting number) = refl
 trap_still Free = refl
-
--- an address is in its phase still
-older_kept : (t : Tenure) → Phase t → Phase (record t { held = older_held t.held })
-older_kept t phase = by t.held refl
-  where
-    with_held : (h : Option AddressUse) → t.held ≡ h → Phase (record t { held = h })
-    with_held h is = subst (λ (k : Option AddressUse). Phase (record t { held = k })) is phase
-
-    by : (h : Option AddressUse) → t.held ≡ h → Phase (record t { held = older_held h })
-    by None is = with_held None is
-    by (Some (InUse idle)) is = used_phase t phase idle (idle + 1) is
-    by (Some (Trapped trap age)) is = older_phase t phase trap age (age + 1) is
-    by (Some (Resting number)) is = with_held (Some (Resting number)) is
-    by (Some Free) is = with_held (Some Free) is
 
 get_mapped : {X Y : Type 0} (f : X → Y) (xs : List X) (i : ℕ) → slice_get (map f xs) i ≡ option_map f (slice_get xs i)
 get_mapped f [] i = refl
@@ -114,63 +84,34 @@ older_vmids v port free = as_free (grants_at v port) (grants_at (with_older v) p
 pub probes_are_aside : (v : SwitchView) → LeavesAddresses v (does v (probes_idle v))
 probes_are_aside v = aside_does v (probes_idle v) (idle_acts IsSilent IsAnyPort (λ port frame way. tt) v (λ x grant is. tt) (λ x i. tt))
 
-module _ (own : Mac → Option Ip4) (r : Registry) (id : Option SwitchId) (down : List ToSwitch) where
-  older_holders : (v : SwitchView) → KeepsHolders (λ x. granted v x) (λ x. granted (with_older v) x)
-  older_holders v x mac h = record {
-    grant = older_grant h.grant;
-    found = granted_older v x ∙ ap (option_map older_grant) h.found;
-    held = held_still h.grant.held ∙ h.held;
-    to = h.to;
-  }
+older_holders : (v : SwitchView) → KeepsHolders (λ x. granted v x) (λ x. granted (with_older v) x)
+older_holders v x mac h = record {
+  grant = older_grant h.grant;
+  found = granted_older v x ∙ ap (option_map older_grant) h.found;
+  held = held_still h.grant.held ∙ h.held;
+  to = h.to;
+}
 
-  older_good : (v : SwitchView) (up : List ToManager) → Good own r id down v up → Good own r id down (with_older v) up
-  older_good v up good = record {
-    edge = record {
-      placed = λ x g is. let was = younger (granted v x) g (sym (granted_older v x) ∙ is) in good.edge.placed x was.grant was.found;
-      grants = λ x g is.
-          let was = younger (granted v x) g (sym (granted_older v x) ∙ is) in
-          let it = good.edge.grants x was.grant was.found in
-          subst (λ (q : Grant). IsGoodGrant own r up x q) was.same (record {
-            own_ip = it.own_ip;
-            told_ip = λ used ip has. it.told_ip (sym (use_still was.grant.held) ∙ used) ip has;
-            trap_ip = λ trap set. it.trap_ip trap (sym (trap_still was.grant.held) ∙ set);
-          });
-      phases = λ x at.
-          let e = edge_of id v up down in
-          let held : older_held (option_map (λ (g : Grant). g.held) (granted v x)) ≡ option_map (λ (g : Grant). g.held) (granted (with_older v) x) =
-          mapped (granted v x) ∙ sym (ap (λ (o : Option Grant). option_map (λ (g : Grant). g.held) o) (granted_older v x)) in
-          subst (λ (h : Option AddressUse). Phase (record (tenure_at r e x) { held = h })) held (older_kept (tenure_at r e x) (good.edge.phases x at));
-      words = words_kept own (λ x. granted v x) (λ x. granted (with_older v) x) (older_holders v) up good.edge.words;
-      orders = orders_kept own (λ x. granted v x) (λ x. granted (with_older v) x) (older_holders v) down good.edge.orders;
-      here = λ x reg is at. let h = good.edge.here x reg is at in record { teller = h.teller; granted_to = older_holders v x reg.amac h.granted_to };
-    };
-    address_table = record {
-      many = length-map v.grants (map older_grant) ∙ good.address_table.many;
-      many_freed = good.address_table.many_freed;
-      empty = λ unsettled port. older_at v.grants port ∙ ap (map older_grant) (good.address_table.empty unsettled port);
-      free = λ port. older_vmids v port (good.address_table.free port);
-      sources = good.address_table.sources;
-    };
-  }
-    where
-      mapped : (o : Option Grant) → older_held (option_map (λ (g : Grant). g.held) o) ≡ option_map (λ (g : Grant). g.held) (option_map older_grant o)
-      mapped None = refl
-      mapped (Some g) = refl
-
-  keeps_older : (v : SwitchView) → Keeps own r id down v (does (with_older v) [])
+module _ (own : Mac → Option Ip4) where
+  keeps_older : (v : SwitchView) → Keeps own v (does (with_older v) [])
   keeps_older v = record {
-    good = λ up good. subst (λ (ts : List ToManager). Good own r id down (with_older v) ts) (sym (append-nil up)) (older_good v up good);
-    grows = λ up good. record { once = λ x. omega arith; stays = older_holders v; says = tt; frees_none = λ x. refl };
+    table = λ table. record {
+      many = length-map v.grants (map older_grant) ∙ table.many;
+      many_freed = table.many_freed;
+      empty = λ unsettled port. older_at v.grants port ∙ ap (map older_grant) (table.empty unsettled port);
+      free = λ port. older_vmids v port (table.free port);
+      sources = table.sources;
+    };
+    grows = λ table. record { once = λ x. omega arith; stays = older_holders v; says = tt; frees_none = λ x. refl };
     place = refl;
     k = refl;
   }
 
-  keeps_probes : (v : SwitchView) → Keeps own r id down v (does v (probes_idle v))
-  keeps_probes v = aside_keeps own r id down v (does v (probes_idle v)) (probes_are_aside v)
+  keeps_probes : (v : SwitchView) → Keeps own v (does v (probes_idle v))
+  keeps_probes v = aside_keeps own v (does v (probes_idle v)) (probes_are_aside v)
 
   -- ---- one rests
-  module _ (v : SwitchView) (x : Pmac) (g : Grant) (was : granted v x ≡ Some g) (held : is_held g.held ≡ true) (number : ℕ)
-      (rests_now : (t : Tenure) → Phase t → t.held ≡ Some g.held → Phase (record t { held = Some (Resting number); up = t.up ++ Ages number ∷ [] })) where
+  module _ (v : SwitchView) (x : Pmac) (g : Grant) (was : granted v x ≡ Some g) (held : is_held g.held ≡ true) (number : ℕ) where
     abbrev resting : Grant
     resting = record g { held = Resting number }
 
@@ -200,28 +141,14 @@ module _ (own : Mac → Option Ip4) (r : Registry) (id : Option SwitchId) (down 
           free = held_free (grants_at v x.port) (freed_at v x.port) x.vmid g resting (table.free x.port) parts.1 held refl;
         }
 
-    rest_good : (up : List ToManager) → Good own r id down v up → Good own r id down (comes_to_rest v x g number).view (up ++ tell.Aged x number ∷ [])
-    rest_good up good =
-        let it = resting_now good.address_table in
-        let e = edge_of id v up down in
-        let before = good.edge.grants x g was in
-        record {
-          edge = changed own r e good.edge x resting (λ y. granted (with_grants v x.port list) y) (tell.Aged x number ∷ []) down it.here it.now it.others it.stays
-              ((g.amac, record { grant = resting; found = it.now; held = refl; to = refl }), tt)
-              good.edge.orders (λ y other. other_aged x y number (other_turned y x other)) (λ y other. refl)
-              (record { own_ip = before.own_ip; told_ip = λ used ip is. absurd (false≢true used); trap_ip = λ trap is. absurd (none-some trap is) })
-              (phase_rests r e x resting (λ y. granted (with_grants v x.port list) y) number it.now
-              (rests_now (tenure_at r e x) (good.edge.phases x it.here) (ap (λ (o : Option Grant). option_map (λ (h : Grant). h.held) o) was)));
-          address_table = table_alike own (with_grants v x.port list) (comes_to_rest v x g number).view refl refl refl refl refl
-              (table_with_grants own v x.port list (local_settled v x it.here) it.within good.address_table it.free);
-        }
-
-    keeps_rest : Keeps own r id down v (comes_to_rest v x g number)
+    keeps_rest : Keeps own v (comes_to_rest v x g number)
     keeps_rest = record {
-      good = λ up good. rest_good up good;
-      grows = λ up good. let it = resting_now good.address_table in record {
+      table = λ table. let it = resting_now table in
+          table_alike own (with_grants v x.port list) (comes_to_rest v x g number).view refl refl refl refl refl
+          (table_with_grants own v x.port list (local_settled v x it.here) it.within table it.free);
+      grows = λ table. let it = resting_now table in record {
         once = λ y. omega arith;
-        stays = keeps_holders own r (edge_of id v up down) good.edge x resting (λ y. granted (with_grants v x.port list) y) [] down it.here it.now it.others it.stays;
+        stays = keeps_holders (λ y. granted v y) (λ y. granted (with_grants v x.port list) y) x resting it.now it.others it.stays;
         says = (tt, tt);
         frees_none = λ y. refl;
       };
@@ -229,33 +156,31 @@ module _ (own : Mac → Option Ip4) (r : Registry) (id : Option SwitchId) (down 
       k = refl;
     }
 
-  keeps_use_out : (v : SwitchView) (x : Pmac) (g : Grant) → granted v x ≡ Some g → (h : AddressUse) → g.held ≡ h → Keeps own r id down v (ages_out_of v x g h)
-  keeps_use_out v x g was (InUse idle) is =
-      keeps_rest v x g was (ap is_held is) 0 (λ t phase held. rests_phase t phase idle (held ∙ ap Some is))
-  keeps_use_out v x g was (Trapped trap age) is =
-      keeps_rest v x g was (ap is_held is) trap.number (λ t phase held. ends_phase t phase trap age (held ∙ ap Some is))
-  keeps_use_out v x g was (Resting number) is = rests_keeps own r id down v
-  keeps_use_out v x g was Free is = rests_keeps own r id down v
+  keeps_use_out : (v : SwitchView) (x : Pmac) (g : Grant) → granted v x ≡ Some g → (h : AddressUse) → g.held ≡ h → Keeps own v (ages_out_of v x g h)
+  keeps_use_out v x g was (InUse idle) is = keeps_rest v x g was (ap is_held is) 0
+  keeps_use_out v x g was (Trapped trap age) is = keeps_rest v x g was (ap is_held is) trap.number
+  keeps_use_out v x g was (Resting number) is = rests_keeps own v
+  keeps_use_out v x g was Free is = rests_keeps own v
 
-  keeps_out : (v : SwitchView) (x : Pmac) (o : Option Grant) → granted v x ≡ o → Keeps own r id down v (ages_out x o v)
-  keeps_out v x None is = rests_keeps own r id down v
+  keeps_out : (v : SwitchView) (x : Pmac) (o : Option Grant) → granted v x ≡ o → Keeps own v (ages_out x o v)
+  keeps_out v x None is = rests_keeps own v
   keeps_out v x (Some g) is = keeps_use_out v x g is g.held refl
 
-  keeps_all_out : (xs : List Pmac) (v : SwitchView) → Keeps own r id down v (all_age_out xs v)
+  keeps_all_out : (xs : List Pmac) (v : SwitchView) → Keeps own v (all_age_out xs v)
   unfolding all_age_out
-  keeps_all_out [] v = rests_keeps own r id down v
+  keeps_all_out [] v = rests_keeps own v
   keeps_all_out (x ∷ xs) v =
       let first : SwitchStep = ages_out x (granted v x) v in
-      keeps_then own r id down v first (all_age_out xs) (keeps_out v x (granted v x) refl) (keeps_all_out xs first.view)
+      keeps_then own v first (all_age_out xs) (keeps_out v x (granted v x) refl) (keeps_all_out xs first.view)
 
   -- ---- a tick
-  keeps_ages : (v : SwitchView) → Keeps own r id down v (ages v)
+  keeps_ages : (v : SwitchView) → Keeps own v (ages v)
   keeps_ages v =
       let probed : SwitchStep = does (with_older v) [] ▹ (λ w. does w (probes_idle w)) in
-      keeps_then own r id down v probed (λ w. all_age_out (to_rest w) w)
-      (keeps_then own r id down v (does (with_older v) []) (λ w. does w (probes_idle w)) (keeps_older v) (keeps_probes (with_older v)))
+      keeps_then own v probed (λ w. all_age_out (to_rest w) w)
+      (keeps_then own v (does (with_older v) []) (λ w. does w (probes_idle w)) (keeps_older v) (keeps_probes (with_older v)))
       (keeps_all_out (to_rest (with_older v)) (with_older v))
 
-  pub keeps_tick : (v : SwitchView) → Keeps own r id down v (ticks v)
+  pub keeps_tick : (v : SwitchView) → Keeps own v (ticks v)
   keeps_tick v =
-      keeps_then own r id down v (tells_neighbours v) ages (aside_keeps own r id down v (tells_neighbours v) (tells_aside v)) (keeps_ages (tells_neighbours v).view)
+      keeps_then own v (tells_neighbours v) ages (aside_keeps own v (tells_neighbours v) (tells_aside v)) (keeps_ages (tells_neighbours v).view)

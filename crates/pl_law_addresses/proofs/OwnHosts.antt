@@ -1,11 +1,11 @@
 -- Hosts send frames of their own alone, from boot on.
-use Rattle.std.proofs.Common.{◌≡◌, ◌<◌, ◌+◌, ℕ, Bool, true, set, List, [], ◌∷◌, length, map, Option, Some, None, slice_get, sym, ap, subst, ◌∙◌, inl, inr, get_or-set_same, get_or-set_other, IsTrue}
+use Rattle.std.proofs.Common.{◌≡◌, ◌<◌, ◌+◌, ◌^◌, ℕ, zero, suc, Bool, true, set, List, [], ◌∷◌, length, map, replicate, Option, Some, None, slice_get, refl, sym, ap, subst, ◌∙◌, inl, inr, arith, get_or-set_same, get_or-set_other, IsTrue}
 use Rattle.std.specs.List.{AllByRecursion, find}
 use Rattle.std.specs.Option.{option_map}
 use Rattle.std.proofs.lemmas.Bool.{and_parts, cases_eq, eqb-true}
 use Rattle.std.proofs.lemmas.Map.Keys.{any_passes_from_place}
-use Rattle.std.proofs.lemmas.Option.{none-some, same_Some, slice_get_within}
-use Rattle.pl_lemmas.proofs.Exports.{all_append}
+use Rattle.std.proofs.lemmas.Option.{get_or_from_slice_get, none-some, same_Some, slice_get_within}
+use Rattle.pl_lemmas.proofs.Exports.{all_append, from_map}
 use Rattle.pl_arp.specs.declared.cache.Me.{Me}
 use Rattle.pl_arp.specs.declared.packet.Arp.{Arp}
 use Rattle.pl_arp.specs.Reception.{same_ip}
@@ -15,19 +15,21 @@ use Rattle.pl_layouts.specs.Equality.{same_mac}
 use Rattle.pl_layouts.specs.Frames.{packet_in}
 use Rattle.pl_layouts.proofs.Exports.{mac_is, mac_itself}
 use Rattle.pl_wiring.specs.declared.host.Host.{Host}
-use Rattle.pl_wiring.specs.Plan.{IsPlan, Plan}
+use Rattle.pl_wiring.specs.Plan.{IsHostIp, IsPlan, Plan}
 use Rattle.pl_node.specs.declared.acts.HostAct.{HostAct}
 use Rattle.pl_node.specs.declared.acts.HostAct.TheVariants.{Send}
 use Rattle.pl_node.specs.HostDuties.{HoldsData, HostsSendData, HostsSendOwn, are_own, is_of, is_own, sent_by}
 use Rattle.pl_node.specs.HostInputs.{HostAnswer, HostInput, HostRule}
-use Rattle.pl_node.specs.HostViews.{HostView}
+use Rattle.pl_node.specs.HostViews.{HostView, boot_host}
+use Rattle.pl_host_rule.proofs.Exports.{boot_holds_own}
 use Rattle.pl_queues.specs.Queues.{items_at}
 use Rattle.pl_switch_rule.specs.Granting.{sender_ip}
 use Rattle.pl_world.specs.declared.item.Item.{Item}
-use Rattle.pl_world.specs.Booting.{me_of}
+use Rattle.pl_world.specs.declared.limits.Limits.{Limits}
+use Rattle.pl_world.specs.Booting.{booted, host_table, me_of}
 use Rattle.pl_law_addresses.specs.OwnAddresses.{IsOwnIp, own_ip}
-use Rattle.pl_law_addresses.specs.OwnFrames.{AreOwnHosts, IsOwnHost, IsOwnItem}
-use Rattle.pl_law_addresses.proofs.Registering.{found_if_any}
+use Rattle.pl_law_addresses.specs.OwnFrames.{AreOwnHosts, HostsAreOwn, IsOwnHost, IsOwnItem}
+use Rattle.pl_law_addresses.proofs.Finding.{found_if_any}
 use Rattle.pl_law_addresses.proofs.TurnQueues.{all_put, items_sent, put_here, put_there}
 use Rattle.pl_law_addresses.proofs.AddressLemmas.{find_passes, find_place, get-set_other, get-set_same, one_index}
 
@@ -107,3 +109,27 @@ shorter_own plan hosts from_hosts h items less within are = λ g host view at is
             (less (IsOwnItem (me_of host)) (subst (λ (n : ℕ). AllByRecursion (IsOwnItem (me_of host)) (items_at from_hosts n)) same old.sends));
       }
 ]
+
+-- ---- the beginning
+pub nothing_at : {X : Type 0} (n i : ℕ) → items_at {T = X} (replicate n []) i ≡ []
+nothing_at zero i = refl
+nothing_at (suc n) zero = refl
+nothing_at (suc n) (suc i) = nothing_at n i
+
+small_ip : (plan : Plan) → IsPlan plan → (h : ℕ) (host : Host) → slice_get plan.hosts h ≡ Some host → host.ip.0 < 2 ^ 32
+small_ip plan is_plan h host at =
+    let it : IsHostIp host.ip = subst (λ (q : Host). IsHostIp q.ip) (get_or_from_slice_get plan.hosts h host host at)
+    (is_plan.host_ips h host (slice_get_within plan.hosts h host at)) in
+    let few = it.no_group in omega (arith, few)
+
+pub hosts_own_first : (plan : Plan) (limits : Limits) → IsPlan plan → HostsAreOwn (booted plan limits)
+hosts_own_first plan limits is_plan h host view at is =
+    let it = from_map (λ q. boot_host (me_of q) (host_table plan)) plan.hosts h view is in
+    let same : it.0 ≡ host = same_Some it.0 host (sym it.1 ∙ at) in
+    subst (λ (v : HostView). IsOwnHost (me_of host) v (items_at (booted plan limits).from_hosts h))
+    (ap (λ (q : Host). boot_host (me_of q) (host_table plan)) (sym same) ∙ it.2)
+    (record {
+      is = refl;
+      holds = boot_holds_own (me_of host) (host_table plan) (small_ip plan is_plan h host at);
+      sends = subst (λ (xs : List Item). AllByRecursion (IsOwnItem (me_of host)) xs) (sym (nothing_at (length plan.hosts) h)) tt;
+    })

@@ -26,10 +26,9 @@ use Rattle.pl_world.specs.Runs.Moment.{Mark, Step}
 use Rattle.pl_world.specs.WorldRule.{ComesAtHost, ComesAtSwitch, ComesOut, HostTurn, SwitchTurn, WorldStep, heard_item}
 use Rattle.pl_world.specs.Worlds.{WorldView}
 use Rattle.pl_world.proofs.Exports.{Any, booted_is_counted, by_manager, by_switch, Happened, happened, heard_left, lost_left, marked_counted, reception_left, skip_left, step_is_counted, Writes}
-use Rattle.pl_world.proofs.Exports.Happened.{Asked, Departed, Failed, FromHost, Lost, Ordered, OutOfPort, OverLink, PlayedFrame, Repaired, Reported, Ticked}
+use Rattle.pl_world.proofs.Exports.Happened.{Asked, BeganAnew, Departed, Failed, FromHost, Lost, Ordered, OutOfPort, OverLink, PlayedFrame, Repaired, Reported, Ticked}
 use Rattle.pl_law_addresses.specs.OwnFrames.{AreOwnHosts, HostsAreOwn}
-use Rattle.pl_law_addresses.proofs.OwnHosts.{host_step_own, shorter_own}
-use Rattle.pl_law_addresses.proofs.AddressesInRuns.{boots_in_order}
+use Rattle.pl_law_addresses.proofs.OwnHosts.{host_step_own, hosts_own_first, shorter_own}
 use Rattle.pl_law_addresses.proofs.TurnQueues.{Parts, host_parts}
 use Rattle.pl_law_addresses.proofs.TurnsKeepAddresses.{filled_within}
 
@@ -117,6 +116,7 @@ module _ (switch : SwitchRule) (manager : ManagerRule) (rule : HostRule) (sends 
     by_case e new (PlayedFrame h input skip is turn) =
         same_turn (skip_noted w h.0 skip) h.0 _ _ new (skip_left (λ a b. hosts_of b ≡ hosts_of a) Any same_writes (λ g why. tt) w h.0 skip) turn
     by_case e new (Asked h input is turn) = same_turn w h.0 _ _ new refl turn
+    by_case e new (BeganAnew is anew) = still w new (ap hosts_of anew) o
 
   pub step_own : (old : WorldView) (e : Event) (new : WorldView) → IsCounted old → WorldStep switch manager rule old e new → HostsAreOwn old → HostsAreOwn new
   step_own old e new counted step o =
@@ -135,4 +135,4 @@ module _ (switch : SwitchRule) (manager : ManagerRule) (rule : HostRule) (sends 
   pub run_own : AccountsForFrames switch → (plan : Plan) (limits : Limits) → CanBegin plan → (moments : List Moment) (new : WorldView) →
       WorldRun switch manager rule (booted plan limits) moments new → HostsAreOwn new
   run_own accounts plan limits can moments new run =
-      from_there accounts (booted plan limits) moments new (booted_is_counted plan limits can) (boots_in_order plan limits can.is_plan).own run
+      from_there accounts (booted plan limits) moments new (booted_is_counted plan limits can) (hosts_own_first plan limits can.is_plan) run

@@ -1,5 +1,5 @@
 -- An edge switch gets its place: once it is placed it keeps it, and it grants addresses to the sources that it remembers.
-use Rattle.std.proofs.Common.{◌≡◌, ◌+◌, ◌%◌, ◌==◌, ◌&&◌, not, ℕ, Bool, true, false, cond, if◌then◌else◌, get_or, List, [], ◌++◌, length, Option, Some, None, is_some, is_none, nat_lt, refl, sym, ap, subst, ◌∙◌, inl, inr, arith, append_assoc}
+use Rattle.std.proofs.Common.{◌≡◌, ◌+◌, ◌%◌, ◌==◌, ◌&&◌, not, ℕ, Bool, true, false, cond, if◌then◌else◌, get_or, List, [], length, Option, Some, None, is_some, is_none, nat_lt, refl, sym, ap, subst, ◌∙◌, inl, inr, arith}
 use Rattle.std.specs.List.{list_any}
 use Rattle.std.proofs.lemmas.Bool.{and_parts, cases_Bool, cond_both, false≢true}
 use Rattle.std.proofs.lemmas.Option.{none-some}
@@ -7,8 +7,6 @@ use Rattle.pl_frame.specs.declared.address.Ip4.{Ip4}
 use Rattle.pl_frame.specs.declared.address.Mac.{Mac}
 use Rattle.pl_frame.specs.declared.address.SwitchId.{SwitchId}
 use Rattle.pl_pmac.specs.declared.pmac.Pmac.{Pmac}
-use Rattle.pl_node.specs.declared.messages.ToManager.{ToManager}
-use Rattle.pl_node.specs.declared.messages.ToSwitch.{ToSwitch}
 use Rattle.pl_node.specs.declared.switch_records.Grant.{Grant}
 use Rattle.pl_node.specs.declared.switch_records.Source.{Source}
 use Rattle.pl_node.specs.PortRecords.{port_of, ports_of_switch, with_port}
@@ -19,21 +17,19 @@ use Rattle.pl_layouts.specs.declared.place.Place.{Place}
 use Rattle.pl_layouts.specs.Placement.{is_known, is_placed}
 use Rattle.pl_layouts.specs.Votes.{counts, gives_way}
 use Rattle.pl_steps.specs.Steps.{SwitchStep, does, rests, ◌▹◌}
-use Rattle.pl_switch_rule.specs.Granting.{freed_at, granted, grants_at, grants_remembered, is_local}
+use Rattle.pl_switch_rule.specs.Granting.{freed_at, granted, grants_at, grants_remembered}
 use Rattle.pl_switch_rule.specs.Levels.{after_message, becomes_edge, changes_to, has_become_placed, learns_level, learns_pod, level_after, notes_edge, pod_after, is_of_other_pod, pod_told_before, settles_in, share_a_pod, with_message, with_pod}
 use Rattle.pl_switch_rule.specs.Messages.{takes_pod}
 use Rattle.pl_switch_rule.specs.Positions.{after_vote, counted, fixes_position, frees_others, half, marks, moves_on, notes_position, with_granted}
 use Rattle.pl_switch_rule.specs.Telling.{changes_told}
 use Rattle.pl_switch_rule.proofs.Exports.{all_range, none_granted}
 use Rattle.pl_law_addresses.specs.FreeVmids.{AreFreeVmids}
-use Rattle.pl_law_addresses.specs.Registries.{Registry}
-use Rattle.pl_law_addresses.specs.EdgeAddresses.{KeepsHolders, edge_of, is_settled}
+use Rattle.pl_law_addresses.specs.EdgeAddresses.{IsGoodAddressTable, KeepsHolders, is_settled}
 use Rattle.pl_law_addresses.proofs.Asides.{changes_silent}
-use Rattle.pl_law_addresses.proofs.ChangesKeepAddresses.{orders_kept, words_kept}
+use Rattle.pl_law_addresses.proofs.FreeLists.{table_alike}
 use Rattle.pl_law_addresses.proofs.Granting.{keeps_grants_remembered}
 use Rattle.pl_law_addresses.proofs.GrantsByNumber.{settled_is}
-use Rattle.pl_law_addresses.proofs.PhasesStay.{KnowsNothing, ungranted_phase}
-use Rattle.pl_law_addresses.proofs.RowsLeaveAddresses.{Good, Grows, LeavesAddresses, Keeps, aside_does, aside_keeps, grows_from, grows_then, keeps_either, keeps_then, rests_keeps, same_good, same_holders, told_append, told_by}
+use Rattle.pl_law_addresses.proofs.RowsLeaveAddresses.{Grows, LeavesAddresses, Keeps, aside_does, aside_keeps, grows_from, grows_then, keeps_either, keeps_then, rests_keeps, same_holders}
 
 -- an address has this place
 abbrev pub has_place : Place → Pmac → Bool
@@ -47,76 +43,54 @@ pub record IsPlacing (v w : SwitchView) : Type 0 where
   pub remembered : w.remembered ≡ v.remembered
   pub place : is_settled v.place ≡ true → w.place ≡ v.place
 
-abbrev pub IsUnknown : Registry → SwitchView → Place → Type 0
-IsUnknown r v place = is_settled v.place ≡ false → (x : Pmac) → has_place place x ≡ true → KnowsNothing r x
-
-module _ (own : Mac → Option Ip4) (r : Registry) (id : Option SwitchId) (down : List ToSwitch) where
-  new_place : (v w : SwitchView) (up : List ToManager) → IsPlacing v w → is_settled v.place ≡ false → ((x : Pmac) → is_local w x ≡ true → KnowsNothing r x) →
-      Good own r id down v up → Good own r id down w up
-  new_place v w up p unsettled unknown good =
-      let empty : (port : ℕ) → grants_at w port ≡ [] = λ port. ap (λ (gs : List (List Grant)). get_or gs port []) p.grants ∙ good.address_table.empty unsettled port in
-      let none : (x : Pmac) → granted w x ≡ None = λ x. none_granted w x (empty x.port) in
-      let was_none : (x : Pmac) → granted v x ≡ None = λ x. none_granted v x (good.address_table.empty unsettled x.port) in
-      let keeps : KeepsHolders (λ x. granted v x) (λ x. granted w x) = λ x mac is. absurd (none-some is.grant (sym (was_none x) ∙ is.found)) in
-      let words = words_kept own (λ x. granted v x) (λ x. granted w x) keeps up good.edge.words in
-      let orders = orders_kept own (λ x. granted v x) (λ x. granted w x) keeps down good.edge.orders in
-      record {
-        edge = record {
-          placed = λ x g is. absurd (none-some g (sym (none x) ∙ is));
-          grants = λ x g is. absurd (none-some g (sym (none x) ∙ is));
-          phases = λ x at. ungranted_phase own r (edge_of id w up down) x (none x) words orders (unknown x at);
-          words = words;
-          orders = orders;
-          here = λ x reg is at. absurd (none-some reg (sym (unknown x at).at ∙ is));
-        };
-        address_table = record {
-          many = ap (λ (gs : List (List Grant)). length gs) p.grants ∙ good.address_table.many ∙ sym p.k;
-          many_freed = ap (λ (fs : List (List ℕ)). length fs) p.freed ∙ good.address_table.many_freed ∙ sym p.k;
-          empty = λ h port. empty port;
-          free = λ port.
-              subst (λ (fs : List ℕ). AreFreeVmids (grants_at w port) fs) (ap (λ (fs : List (List ℕ)). get_or fs port []) (sym p.freed))
-              (subst (λ (gs : List Grant). AreFreeVmids gs (freed_at v port)) (ap (λ (gs : List (List Grant)). get_or gs port []) (sym p.grants)) (good.address_table.free port));
-          sources = λ port source is. good.address_table.sources port source (ap (λ (ss : List (Option Source)). get_or ss port None) (sym p.remembered) ∙ is);
-        };
-      }
-
-  placed_good : (v w : SwitchView) (up : List ToManager) → IsPlacing v w → IsUnknown r v w.place → Good own r id down v up → Good own r id down w up
-  placed_good v w up p unknown good = elim (cases_Bool (is_settled v.place)) [
-    | inl settled ↦ same_good own r id down v w up (p.place settled) p.k p.grants p.freed p.remembered good
-    | inr unsettled ↦ new_place v w up p unsettled (λ x at. unknown unsettled x at) good
+module _ (own : Mac → Option Ip4) where
+  -- an edge switch that is not placed has granted nothing
+  placed_table : (v w : SwitchView) → IsPlacing v w → IsGoodAddressTable own v → IsGoodAddressTable own w
+  placed_table v w p table = elim (cases_Bool (is_settled v.place)) [
+    | inl settled ↦ table_alike own v w (p.place settled) p.k p.grants p.freed p.remembered table
+    | inr unsettled ↦ record {
+      many = ap (λ (gs : List (List Grant)). length gs) p.grants ∙ table.many ∙ sym p.k;
+      many_freed = ap (λ (fs : List (List ℕ)). length fs) p.freed ∙ table.many_freed ∙ sym p.k;
+      empty = λ h port. ap (λ (gs : List (List Grant)). get_or gs port []) p.grants ∙ table.empty unsettled port;
+      free = λ port.
+          subst (λ (fs : List ℕ). AreFreeVmids (grants_at w port) fs) (ap (λ (fs : List (List ℕ)). get_or fs port []) (sym p.freed))
+          (subst (λ (gs : List Grant). AreFreeVmids gs (freed_at v port))
+          (ap (λ (gs : List (List Grant)). get_or gs port []) (sym p.grants)) (table.free port));
+      sources = λ port source is. table.sources port source (ap (λ (ss : List (Option Source)). get_or ss port None) (sym p.remembered) ∙ is);
+    }
   ]
 
-  placed_holders : (v w : SwitchView) (up : List ToManager) → IsPlacing v w → Good own r id down v up → KeepsHolders (λ x. granted v x) (λ x. granted w x)
-  placed_holders v w up p good = elim (cases_Bool (is_settled v.place)) [
+  placed_holders : (v w : SwitchView) → IsPlacing v w → IsGoodAddressTable own v → KeepsHolders (λ x. granted v x) (λ x. granted w x)
+  placed_holders v w p table = elim (cases_Bool (is_settled v.place)) [
     | inl settled ↦ same_holders v w (p.place settled) p.grants
-    | inr unsettled ↦ λ x mac is. absurd (none-some is.grant (sym (none_granted v x (good.address_table.empty unsettled x.port)) ∙ is.found))
+    | inr unsettled ↦ λ x mac is. absurd (none-some is.grant (sym (none_granted v x (table.empty unsettled x.port)) ∙ is.found))
   ]
 
   -- what comes of it
-  keeps_settling : (old : Place) (w : SwitchView) → Keeps own r id down w (settles_in old w)
+  keeps_settling : (old : Place) (w : SwitchView) → Keeps own w (settles_in old w)
   keeps_settling old w =
-      keeps_either own r id down w (has_become_placed old w.place) (grants_remembered (ports_of_switch w.k) w) (rests w)
+      keeps_either own w (has_become_placed old w.place) (grants_remembered (ports_of_switch w.k) w) (rests w)
       (λ now. let parts = and_parts (is_known w.place.level 0 && is_placed w.place) (not (is_placed old)) now in
-      keeps_grants_remembered own r id down (ports_of_switch w.k) w parts.0 (all_range w.k 0 w.k (omega arith)))
-      (λ other. rests_keeps own r id down w)
+      keeps_grants_remembered own (ports_of_switch w.k) w parts.0 (all_range w.k 0 w.k (omega arith)))
+      (λ other. rests_keeps own w)
 
-  pub keeps_changes : (v w : SwitchView) → Keeps own r id down w (changes_to v w)
+  pub keeps_changes : (v w : SwitchView) → Keeps own w (changes_to v w)
   keeps_changes v w =
-      keeps_then own r id down w (does w (changes_told v w)) (settles_in v.place)
-      (aside_keeps own r id down w (does w (changes_told v w)) (aside_does w (changes_told v w) (changes_silent v w))) (keeps_settling v.place w)
+      keeps_then own w (does w (changes_told v w)) (settles_in v.place)
+      (aside_keeps own w (does w (changes_told v w)) (aside_does w (changes_told v w) (changes_silent v w))) (keeps_settling v.place w)
 
   -- a step in which the switch may get its place
   pub record Steps (v : SwitchView) (s : SwitchStep) : Type 0 where
-    pub good : IsUnknown r v s.view.place → (up : List ToManager) → Good own r id down v up → Good own r id down s.view (up ++ told_by s.acts)
-    pub grows : (up : List ToManager) → IsUnknown r v s.view.place → Good own r id down v up → Grows v s
+    pub table : IsGoodAddressTable own v → IsGoodAddressTable own s.view
+    pub grows : IsGoodAddressTable own v → Grows v s
     pub place : is_settled v.place ≡ true → s.view.place ≡ v.place
     pub k : s.view.k ≡ v.k
 
-  pub keeps_steps : (v : SwitchView) (s : SwitchStep) → Keeps own r id down v s → Steps v s
-  keeps_steps v s a = record { good = λ unknown up good. a.good up good; grows = λ up unknown good. a.grows up good; place = λ settled. a.place; k = a.k }
+  pub keeps_steps : (v : SwitchView) (s : SwitchStep) → Keeps own v s → Steps v s
+  keeps_steps v s a = record { table = a.table; grows = a.grows; place = λ settled. a.place; k = a.k }
 
   pub aside_steps : (v : SwitchView) (s : SwitchStep) → LeavesAddresses v s → Steps v s
-  aside_steps v s a = keeps_steps v s (aside_keeps own r id down v s a)
+  aside_steps v s a = keeps_steps v s (aside_keeps own v s a)
 
   pub steps_either : (v : SwitchView) (test : Bool) (s t : SwitchStep) → (test ≡ true → Steps v s) → (test ≡ false → Steps v t) → Steps v (if test then s else t)
   steps_either v true s t a b = a refl
@@ -124,23 +98,16 @@ module _ (own : Mac → Option Ip4) (r : Registry) (id : Option SwitchId) (down 
 
   pub steps_changes : (v w : SwitchView) → IsPlacing v w → Steps v (changes_to v w)
   steps_changes v w p = let a = keeps_changes v w in record {
-    good = λ unknown up good. a.good up (placed_good v w up p (λ unsettled x at. unknown unsettled x (ap (λ (q : Place). has_place q x) a.place ∙ at)) good);
-    grows = λ up unknown good.
-        grows_from v w (changes_to v w) (placed_holders v w up p good)
-        (a.grows up (placed_good v w up p (λ unsettled x at. unknown unsettled x (ap (λ (q : Place). has_place q x) a.place ∙ at)) good));
+    table = λ table. a.table (placed_table v w p table);
+    grows = λ table. grows_from v w (changes_to v w) (placed_holders v w p table) (a.grows (placed_table v w p table));
     place = λ settled. a.place ∙ p.place settled;
     k = a.k ∙ p.k;
   }
 
-  pub steps_then : (v : SwitchView) (s : SwitchStep) (next : SwitchView → SwitchStep) → Steps v s → Keeps own r id down s.view (next s.view) → Steps v (s ▹ next)
+  pub steps_then : (v : SwitchView) (s : SwitchStep) (next : SwitchView → SwitchStep) → Steps v s → Keeps own s.view (next s.view) → Steps v (s ▹ next)
   steps_then v s next a b = record {
-    good = λ unknown up good. subst (λ (ts : List ToManager). Good own r id down (next s.view).view ts)
-        (append_assoc up (told_by s.acts) (told_by (next s.view).acts) ∙ ap (λ ts. up ++ ts) (sym (told_append s.acts (next s.view).acts)))
-        (b.good (up ++ told_by s.acts)
-        (a.good (λ unsettled x at. unknown unsettled x (ap (λ (q : Place). has_place q x) b.place ∙ at)) up good));
-    grows = λ up unknown good.
-        let before : IsUnknown r v s.view.place = λ unsettled x at. unknown unsettled x (ap (λ (q : Place). has_place q x) b.place ∙ at) in
-        grows_then v s next (a.grows up before good) (b.grows (up ++ told_by s.acts) (a.good before up good));
+    table = λ table. b.table (a.table table);
+    grows = λ table. grows_then v s next (a.grows table) (b.grows (a.table table));
     place = λ settled. b.place ∙ a.place settled;
     k = b.k ∙ a.k;
   }

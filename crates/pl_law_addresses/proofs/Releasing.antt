@@ -1,129 +1,48 @@
--- An edge switch hears that an address is released: it is free from then on.
-use Rattle.std.proofs.Common.{◌≡◌, ◌≤◌, ◌<◌, ◌+◌, ◌-◌, Bool, true, false, if◌then◌else◌, set, List, [], ◌∷◌, ◌++◌, length, Option, Some, refl, sym, ap, subst, ◌∙◌, inl, inr, arith, append-nil}
-use Rattle.std.specs.List.{AllByRecursion}
+-- An edge switch hears that an address is released: where it rests, it is free from then on.
+use Rattle.std.proofs.Common.{◌≡◌, ◌≤◌, ◌<◌, ◌+◌, ◌-◌, ℕ, Bool, true, false, if◌then◌else◌, set, List, [], ◌∷◌, ◌++◌, length, Option, Some, None, refl, sym, ap, subst, ◌∙◌, inl, inr, arith}
 use Rattle.std.specs.Option.{option_map}
-use Rattle.std.proofs.lemmas.Bool.{false≢true}
-use Rattle.std.proofs.lemmas.Option.{none-some, same_Some}
 use Rattle.pl_frame.specs.declared.address.Ip4.{Ip4}
 use Rattle.pl_frame.specs.declared.address.Mac.{Mac}
-use Rattle.pl_frame.specs.declared.address.SwitchId.{SwitchId}
 use Rattle.pl_pmac.specs.declared.pmac.Pmac.{Pmac}
 use Rattle.pl_layouts.specs.Equality.{same_pmac}
 use Rattle.pl_layouts.proofs.Exports.{pmac_itself}
-use Rattle.pl_node.specs.AddressUses.{is_held, is_in_use, standing_trap}
+use Rattle.pl_node.specs.AddressUses.{is_held}
 use Rattle.pl_node.specs.declared.acts.Act.TheVariants as act
 use Rattle.pl_node.specs.declared.address_use.AddressUse.{AddressUse}
-use Rattle.pl_node.specs.declared.address_use.AddressUse.TheVariants.{Free, Resting}
-use Rattle.pl_node.specs.declared.messages.ToManager.{ToManager}
-use Rattle.pl_node.specs.declared.messages.ToManager.TheVariants as tell
-use Rattle.pl_node.specs.declared.messages.ToSwitch.{ToSwitch}
-use Rattle.pl_node.specs.declared.messages.ToSwitch.TheVariants as say
+use Rattle.pl_node.specs.declared.address_use.AddressUse.TheVariants.{Free, InUse, Resting, Trapped}
 use Rattle.pl_node.specs.declared.switch_records.Grant.{Grant}
 use Rattle.pl_node.specs.SwitchViews.{SwitchView}
-use Rattle.pl_steps.specs.Steps.{SwitchStep, does}
-use Rattle.pl_switch_rule.specs.Granting.{freed_at, granted, grants_at, is_local, with_grants}
+use Rattle.pl_steps.specs.Steps.{SwitchStep, does, rests}
+use Rattle.pl_switch_rule.specs.Granting.{freed_at, granted, grants_at, with_grants}
 use Rattle.pl_switch_rule.specs.Messages.{becomes_free, frees, frees_at}
 use Rattle.pl_switch_rule.proofs.Exports.{granted_parts}
-use Rattle.pl_law_phases.specs.Phases.{Phase}
-use Rattle.pl_law_phases.specs.Tenures.{Order, Tenure, Told, is_held as is_held_there, order_of, orders_of, told_of, words_of}
-use Rattle.pl_law_phases.specs.Tenures.Order.{Recalls, Releases}
-use Rattle.pl_law_phases.specs.Tenures.Told.{Ages, Learns}
-use Rattle.pl_law_phases.proofs.Exports.{aged_here, IsReleased, ordered_here, ordered_there, released_here, released_phase, released_there, told_here, told_there, aged_there}
 use Rattle.pl_law_addresses.specs.FreeVmids.{AreFreeVmids}
-use Rattle.pl_law_addresses.specs.OwnAddresses.{IsOwnIp}
-use Rattle.pl_law_addresses.specs.Registries.{Registry}
-use Rattle.pl_law_addresses.specs.EdgeAddresses.{Edge, IsGoodEdge, IsGoodOrder, IsGoodWord, IsHeldFor, edge_of, is_live, tenure_at}
-use Rattle.pl_law_addresses.proofs.AddressLemmas.{is_or_other, other_turned}
+use Rattle.pl_law_addresses.specs.EdgeAddresses.{IsGoodAddressTable, is_held as is_held_there, is_live}
+use Rattle.pl_law_addresses.proofs.AddressLemmas.{is_or_other}
 use Rattle.pl_law_addresses.proofs.FreeLists.{freed_free, table_alike, table_with_free}
 use Rattle.pl_law_addresses.proofs.GrantsByNumber.{granted_within, local_settled, now_at, number_set_other, number_set_same, number_within, others_at}
-use Rattle.pl_law_addresses.proofs.PhasesStay.{knows_same, phase_kept}
-use Rattle.pl_law_addresses.proofs.RowsLeaveAddresses.{Good, Turns, held_live, told_by}
+use Rattle.pl_law_addresses.proofs.RowsLeaveAddresses.{Turns, grows_turns, held_live, rests_keeps}
 
--- ---- words about other addresses stay good where one is freed
-held_other : (f g : Pmac → Option Grant) (x : Pmac) → ((y : Pmac) → same_pmac y x ≡ false → g y ≡ f y) → (y : Pmac) (mac : Mac) → same_pmac y x ≡ false → IsHeldFor f y mac →
-    IsHeldFor g y mac
-held_other f g x others y mac other h = record { grant = h.grant; found = others y other ∙ h.found; held = h.held; to = h.to }
+one_at_most : (b : Bool) → 0 + ((if b then 1 else 0) + 0) ≤ 1
+one_at_most true = omega arith
+one_at_most false = omega arith
 
-module _ (own : Mac → Option Ip4) (f g : Pmac → Option Grant) (x : Pmac) (others : (y : Pmac) → same_pmac y x ≡ false → g y ≡ f y) where
-  none_before : (word : Told) (up : List Told) → (w : List Told) → w ≡ word ∷ [] → w ++ up ≡ [] → ⊥
-  none_before word up w is none = let e : word ∷ up ≡ [] = sym (ap (λ ws. ws ++ up) is) ∙ none in absurd (cc)
-
-  none_ordered : (order : Order) (down : List Order) → (o : List Order) → o ≡ order ∷ [] → o ++ down ≡ [] → ⊥
-  none_ordered order down o is none = let e : order ∷ down ≡ [] = sym (ap (λ os. os ++ down) is) ∙ none in absurd (cc)
-
-  pub words_left : (up : List ToManager) → words_of x up ≡ [] → AllByRecursion (IsGoodWord own f) up → AllByRecursion (IsGoodWord own g) up
-  words_left [] none all = tt
-  words_left (tell.Learned y amac ip ∷ up) none all = elim (is_or_other y x) [
-    | inl same ↦
-        absurd (none_before Learns (words_of x up) (told_of x (tell.Learned y amac ip)) (ap (λ z. told_of z (tell.Learned y amac ip)) (sym same) ∙ told_here y amac ip) none)
-    | inr other ↦
-        ((held_other f g x others y amac other all.0.0, all.0.1), words_left up (sym (ap (λ ws. ws ++ words_of x up) (told_there y x amac ip other)) ∙ none) all.1)
-  ]
-  words_left (tell.Aged y number ∷ up) none all = elim (is_or_other y x) [
-    | inl same ↦
-        absurd (none_before (Ages number) (words_of x up) (told_of x (tell.Aged y number)) (ap (λ z. told_of z (tell.Aged y number)) (sym same) ∙ aged_here y number) none)
-    | inr other ↦
-        ((all.0.0, held_other f g x others y all.0.0 other all.0.1), words_left up (sym (ap (λ ws. ws ++ words_of x up) (aged_there y x number other)) ∙ none) all.1)
-  ]
-  words_left (tell.Place place ∷ up) none all = (tt, words_left up none all.1)
-  words_left (tell.Link u usable ∷ up) none all = (tt, words_left up none all.1)
-  words_left (tell.PodWanted ∷ up) none all = (tt, words_left up none all.1)
-  words_left (tell.Begin epoch ∷ up) none all = (tt, words_left up none all.1)
-  words_left (tell.End epoch ∷ up) none all = (tt, words_left up none all.1)
-  words_left (tell.Trapped trapped toward numbered ∷ up) none all = (tt, words_left up none all.1)
-  words_left (tell.Query asker asker_ip ip ∷ up) none all = (tt, words_left up none all.1)
-  words_left (tell.Members group any ∷ up) none all = (tt, words_left up none all.1)
-
-  pub orders_left : (down : List ToSwitch) → orders_of x down ≡ [] → AllByRecursion (IsGoodOrder own f) down → AllByRecursion (IsGoodOrder own g) down
-  orders_left [] none all = tt
-  orders_left (say.Invalidate y new number ip ∷ down) none all = elim (is_or_other y x) [
-    | inl same ↦
-        absurd (none_ordered (Recalls new number) (orders_of x down) (order_of x (say.Invalidate y new number ip))
-        (ap (λ z. order_of z (say.Invalidate y new number ip)) (sym same) ∙ ordered_here y new number ip) none)
-    | inr other ↦
-        let it = all.0 in (
-          record { mac = it.mac; granted_to = held_other f g x others y it.mac other it.granted_to; own_ip = it.own_ip },
-          orders_left down (sym (ap (λ os. os ++ orders_of x down) (ordered_there y x new number ip other)) ∙ none) all.1,
-        )
-  ]
-  orders_left (say.Release y ∷ down) none all = elim (is_or_other y x) [
-    | inl same ↦
-        absurd (none_ordered Releases (orders_of x down) (order_of x (say.Release y)) (ap (λ z. order_of z (say.Release y)) (sym same) ∙ released_here y) none)
-    | inr other ↦
-        ((all.0.0, held_other f g x others y all.0.0 other all.0.1), orders_left down (sym (ap (λ os. os ++ orders_of x down) (released_there y x other)) ∙ none) all.1)
-  ]
-  orders_left (say.Pod pod ∷ down) none all = (tt, orders_left down none all.1)
-  orders_left (say.Answer asker asker_ip ip pmac ∷ down) none all = (tt, orders_left down none all.1)
-  orders_left (say.Flood asker asker_ip ip ∷ down) none all = (tt, orders_left down none all.1)
-  orders_left (say.Avoid list ∷ down) none all = (tt, orders_left down none all.1)
-  orders_left (say.Hello epoch ∷ down) none all = absurd all.0
-  orders_left (say.Tree group part ∷ down) none all = (tt, orders_left down none all.1)
-
--- ---- the release is heard
-module _ (own : Mac → Option Ip4) (r : Registry) (id : Option SwitchId) (rest : List ToSwitch) (x : Pmac) where
-  pub record Released (v : SwitchView) (up : List ToManager) (s : SwitchStep) : Type 0 where
-    pub good : Good own r id rest s.view (up ++ told_by s.acts)
-    pub turns : Turns v s
+module _ (own : Mac → Option Ip4) (v : SwitchView) (x : Pmac) where
+  -- a step that may free an address
+  pub record Frees (s : SwitchStep) : Type 0 where
+    pub table : IsGoodAddressTable own v → IsGoodAddressTable own s.view
+    pub turns : IsGoodAddressTable own v → Turns v s
     pub place : s.view.place ≡ v.place
 
-  module _ (v : SwitchView) (up : List ToManager) (good : Good own r id (say.Release x ∷ rest) v up) (g : Grant) (was : granted v x ≡ Some g) where
+  frees_none : Frees (rests v)
+  frees_none = let a = rests_keeps own v in record { table = a.table; turns = λ table. grows_turns v (rests v) (a.grows table); place = a.place }
+
+  module _ (g : Grant) (was : granted v x ≡ Some g) (number : ℕ) (at_rest : g.held ≡ Resting number) where
     abbrev freed : Grant
     freed = record g { held = Free }
 
     abbrev list : List Grant
     list = set (grants_at v x.port) (x.vmid - 1) freed
-
-    abbrev e : Edge
-    e = edge_of id v up (say.Release x ∷ rest)
-
-    here : is_local v x ≡ true
-    here = (granted_parts v x g was).0
-
-    released : IsReleased (tenure_at r e x) (orders_of x rest)
-    released = released_phase (tenure_at r e x) (good.edge.phases x here) (orders_of x rest) (ap (λ os. os ++ orders_of x rest) (released_here x))
-
-    held_is : g.held ≡ Resting released.number
-    held_is = same_Some g.held (Resting released.number) (sym (ap (λ (o : Option Grant). option_map (λ (h : Grant). h.held) o) was) ∙ released.rests)
 
     record IsFreeNow : Type 0 where
       within : x.port < v.k
@@ -131,91 +50,53 @@ module _ (own : Mac → Option Ip4) (r : Registry) (id : Option SwitchId) (rest 
       others : (y : Pmac) → same_pmac y x ≡ false → granted (with_grants v x.port list) y ≡ granted v y
       free : AreFreeVmids list (freed_at v x.port ++ x.vmid ∷ [])
 
-    free_now : IsFreeNow
-    free_now =
+    free_now : IsGoodAddressTable own v → IsFreeNow
+    free_now table =
         let parts = granted_parts v x g was in
-        let within : x.port < v.k = granted_within v x g was good.address_table.many in
-        let many : x.port < length v.grants = subst (λ n. x.port < n) (sym good.address_table.many) within in
+        let within : x.port < v.k = granted_within v x g was table.many in
+        let many : x.port < length v.grants = subst (λ n. x.port < n) (sym table.many) within in
         let some = (number_within (grants_at v x.port) x.vmid g parts.1).0 in
         record {
           within = within;
           now = now_at v x list many parts.0 ∙ number_set_same (grants_at v x.port) x.vmid g freed parts.1;
           others = others_at v x list many parts.0 (λ n other. number_set_other (grants_at v x.port) x.vmid n freed some other);
-          free = freed_free (grants_at v x.port) (freed_at v x.port) x.vmid g freed (good.address_table.free x.port) parts.1 (ap is_held held_is) refl;
+          free = freed_free (grants_at v x.port) (freed_at v x.port) x.vmid g freed (table.free x.port) parts.1 (ap is_held at_rest) refl;
         }
 
-    abbrev f : Pmac → Option Grant
-    f y = granted (with_grants v x.port list) y
-
-    free_edge : IsGoodEdge own r (record e { granted = f; down = rest })
-    free_edge =
-        let it = free_now in
-        let gone = released in
+    free_turns : IsGoodAddressTable own v → Turns v (does (becomes_free v x g) (act.Free x ∷ []))
+    free_turns table =
+        let it = free_now table in
+        let was_live : is_live v x ≡ true = held_live v x g.amac (record { grant = g; found = was; held = ap is_held at_rest; to = refl }) in
         record {
-          placed = λ y h is. elim (is_or_other y x) [
-            | inl same ↦ ap (λ z. is_local v z) same ∙ here
-            | inr other ↦ good.edge.placed y h (sym (it.others y other) ∙ is)
-          ];
-          grants = λ y h is. elim (is_or_other y x) [
+          once = λ y. one_at_most (same_pmac x y);
+          stays = λ y mac none h. elim (is_or_other y x) [
             | inl same ↦
-                let grant : freed ≡ h = same_Some freed h (sym it.now ∙ ap f (sym same) ∙ is) in
-                let unused = ap (λ (q : Grant). q.held) (sym grant) in
-                record {
-                  own_ip = subst (λ (q : Grant). IsOwnIp own q.amac q.ip) grant (good.edge.grants x g was).own_ip;
-                  told_ip = λ used ip has. absurd (false≢true (sym (ap is_in_use unused) ∙ used));
-                  trap_ip = λ trap set. absurd (none-some trap (sym (ap standing_trap unused) ∙ set));
-                }
-            | inr other ↦ let q = good.edge.grants y h (sym (it.others y other) ∙ is) in record { own_ip = q.own_ip; told_ip = q.told_ip; trap_ip = q.trap_ip }
+                let one : (if same_pmac x y then 1 else 0) + 0 ≡ 1 + 0 = ap (λ b. (if b then 1 else 0) + 0) (ap (same_pmac x) same ∙ pmac_itself x) in
+                absurd (omega (arith, one, none))
+            | inr other ↦ record { grant = h.grant; found = it.others y other ∙ h.found; held = h.held; to = h.to }
           ];
-          phases = λ y at. elim (is_or_other y x) [
-            | inl same ↦
-                let path : record (tenure_at r e x) { held = Some Free; down = orders_of x rest } ≡ tenure_at r (record e { granted = f; down = rest }) x =
-                λ i. record (tenure_at r e x) { held = option_map (λ (h : Grant). h.held) (sym it.now i); down = orders_of x rest } in
-                subst (λ (z : Pmac). Phase (tenure_at r (record e { granted = f; down = rest }) z)) (sym same) (subst (λ (t : Tenure). Phase t) path gone.phase)
-            | inr other ↦
-                phase_kept r r e (record e { granted = f; down = rest }) y (knows_same r y) (it.others y other) refl
-                (sym (ap (λ os. os ++ orders_of y rest) (released_there x y (other_turned y x other)))) (good.edge.phases y at)
-          ];
-          words = words_left own e.granted f x it.others up gone.silent good.edge.words;
-          orders = orders_left own e.granted f x it.others rest gone.last good.edge.orders.1;
-          here = λ y reg is at. elim (is_or_other y x) [
-            | inl same ↦ absurd (none-some reg (sym gone.unknown.reg ∙ ap r.at (sym same) ∙ is))
-            | inr other ↦
-                let h = good.edge.here y reg is at in
-                record { teller = h.teller; granted_to = held_other e.granted f x it.others y reg.amac other h.granted_to }
-          ];
+          says = ((was_live, ap (λ (o : Option Grant). is_held_there (option_map (λ (h : Grant). h.held) o)) it.now), tt);
         }
 
-    free_step : Released v up (does (becomes_free v x g) (act.Free x ∷ []))
-    free_step =
-        let it = free_now in
-        let was_live : is_live v x ≡ true = held_live v x g.amac (record { grant = g; found = was; held = ap is_held held_is; to = refl }) in
-        record {
-          good = record {
-            edge = subst (λ (ts : List ToManager). IsGoodEdge own r (record e { granted = f; up = ts; down = rest })) (sym (append-nil up)) free_edge;
-            address_table = table_alike own (record (with_grants v x.port list) { freed = set v.freed x.port (freed_at v x.port ++ x.vmid ∷ []) }) (becomes_free v x g)
-                refl refl refl refl refl
-                (table_with_free own v x.port list (local_settled v x here) it.within good.address_table (freed_at v x.port ++ x.vmid ∷ []) it.free);
-          };
-          turns = record {
-            once = λ y. one_at_most (same_pmac x y);
-            stays = λ y mac none h. elim (is_or_other x y) [
-              | inl same ↦
-                  let one : (if same_pmac x y then 1 else 0) + 0 ≡ 1 + 0 = ap (λ b. (if b then 1 else 0) + 0) (ap (same_pmac x) (sym same) ∙ pmac_itself x) in
-                  absurd (omega (arith, one, none))
-              | inr other ↦ held_other e.granted f x it.others y mac (other_turned x y other) h
-            ];
-            says = ((was_live, ap (λ (o : Option Grant). is_held_there (option_map (λ (h : Grant). h.held) o)) it.now), tt);
-          };
-          place = refl;
-        }
-      where
-        one_at_most : (b : Bool) → 0 + ((if b then 1 else 0) + 0) ≤ 1
-        one_at_most true = omega arith
-        one_at_most false = omega arith
+    frees_it : Frees (does (becomes_free v x g) (act.Free x ∷ []))
+    frees_it = record {
+      table = λ table. let it = free_now table in
+          table_alike own (record (with_grants v x.port list) { freed = set v.freed x.port (freed_at v x.port ++ x.vmid ∷ []) }) (becomes_free v x g)
+          refl refl refl refl refl
+          (table_with_free own v x.port list (local_settled v x (granted_parts v x g was).0) it.within table (freed_at v x.port ++ x.vmid ∷ []) it.free);
+      turns = free_turns;
+      place = refl;
+    }
 
-  pub release_good : (v : SwitchView) (up : List ToManager) → Good own r id (say.Release x ∷ rest) v up → Released v up (frees v x (granted v x))
-  release_good v up good =
-      let it = good.edge.orders.0.1 in
-      subst (λ (o : Option Grant). Released v up (frees v x o)) (sym it.found)
-      (subst (λ (h : AddressUse). Released v up (frees_at v x it.grant h)) (sym (held_is v up good it.grant it.found)) (free_step v up good it.grant it.found))
+  frees_use : (g : Grant) → granted v x ≡ Some g → (h : AddressUse) → g.held ≡ h → Frees (frees_at v x g h)
+  frees_use g was (Resting number) is = frees_it g was number is
+  frees_use g was (InUse idle) is = frees_none
+  frees_use g was (Trapped trap age) is = frees_none
+  frees_use g was Free is = frees_none
+
+  pub release_frees : Frees (frees v x (granted v x))
+  release_frees = by (granted v x) refl
+    where
+      by : (o : Option Grant) → granted v x ≡ o → Frees (frees v x o)
+      by None none = frees_none
+      by (Some g) was = frees_use g was g.held refl

@@ -1,17 +1,16 @@
--- Parts of a step of a switch that keep its addresses in order, and how they go together.
-use Rattle.std.proofs.Common.{◌≡◌, ◌≤◌, ◌+◌, ℕ, arith, inl, inr, Bool, true, false, if◌then◌else◌, List, [], ◌∷◌, ◌++◌, Option, Some, None, refl, sym, ap, subst, ◌∙◌, append_assoc}
+-- Parts of a step of a switch that keep the lists of its addresses in order, and how they go together.
+use Rattle.std.proofs.Common.{◌≡◌, ◌≤◌, ◌+◌, ℕ, arith, inl, inr, Bool, true, false, if◌then◌else◌, List, [], ◌∷◌, ◌++◌, Option, Some, None, refl, sym, ap, subst, ◌∙◌}
 use Rattle.std.specs.List.{AllByRecursion}
 use Rattle.std.specs.Option.{option_map}
 use Rattle.std.proofs.lemmas.Bool.{cases_Bool, cases_lt, false≢true}
 use Rattle.pl_lemmas.proofs.Exports.{all_append}
 use Rattle.pl_frame.specs.declared.address.Ip4.{Ip4}
 use Rattle.pl_frame.specs.declared.address.Mac.{Mac}
-use Rattle.pl_frame.specs.declared.address.SwitchId.{SwitchId}
 use Rattle.pl_node.specs.declared.acts.Act.{Act}
 use Rattle.pl_node.specs.declared.acts.Act.TheVariants as act
 use Rattle.pl_node.specs.declared.messages.ToManager.{ToManager}
 use Rattle.pl_node.specs.declared.messages.ToManager.TheVariants as tell
-use Rattle.pl_node.specs.declared.messages.ToSwitch.{ToSwitch}
+use Rattle.pl_node.specs.AddressUses.{is_held as is_somebodys}
 use Rattle.pl_node.specs.declared.switch_records.Grant.{Grant}
 use Rattle.pl_node.specs.SwitchViews.{SwitchView}
 use Rattle.pl_pmac.specs.declared.pmac.Pmac.{Pmac}
@@ -19,10 +18,8 @@ use Rattle.pl_layouts.specs.Equality.{same_pmac}
 use Rattle.pl_layouts.proofs.Exports.{pmac_is, pmac_itself}
 use Rattle.pl_steps.specs.Steps.{SwitchStep, does, rests, ◌▹◌}
 use Rattle.pl_switch_rule.specs.Granting.{granted}
-use Rattle.pl_law_phases.specs.Tenures.{is_held, told_of, words_of}
-use Rattle.pl_law_addresses.specs.Registries.{Registry}
-use Rattle.pl_law_addresses.specs.EdgeAddresses.{Edge, IsGoodAddressTable, IsGoodEdge, IsGoodWord, IsHeld, IsHeldFor, KeepsHolders, edge_of, is_live}
-use Rattle.pl_law_addresses.proofs.ChangesKeepAddresses.{tells_more}
+use Rattle.pl_law_addresses.specs.EdgeAddresses.{IsGoodAddressTable, IsHeld, IsHeldFor, KeepsHolders, is_held, is_live}
+use Rattle.pl_law_addresses.proofs.AddressLemmas.{is_or_other}
 use Rattle.pl_law_addresses.proofs.FreeLists.{table_alike}
 
 -- what acts tell the manager
@@ -51,26 +48,6 @@ IsSilent act = Unit {0}
 
 abbrev pub AreSilent : List Act → Type 0
 AreSilent acts = AllByRecursion IsSilent acts
-
-silent_word : (own : Mac → Option Ip4) (f : Pmac → Option Grant) (told : ToManager) → IsSilentWord told → IsGoodWord own f told
-silent_word own f (tell.Learned pmac amac ip) is = absurd is
-silent_word own f (tell.Aged pmac number) is = absurd is
-silent_word own f told is = tt
-
-silent_words : (own : Mac → Option Ip4) (f : Pmac → Option Grant) (acts : List Act) → AreSilent acts → AllByRecursion (IsGoodWord own f) (told_by acts)
-silent_words own f [] are = tt
-silent_words own f (act.Tell told ∷ acts) are = (silent_word own f told are.0, silent_words own f acts are.1)
-silent_words own f (a ∷ acts) are = silent_words own f acts are.1
-
-told_silent : (x : Pmac) (told : ToManager) → IsSilentWord told → told_of x told ≡ []
-told_silent x (tell.Learned pmac amac ip) is = absurd is
-told_silent x (tell.Aged pmac number) is = absurd is
-told_silent x told is = refl
-
-words_silent : (acts : List Act) → AreSilent acts → (x : Pmac) → words_of x (told_by acts) ≡ []
-words_silent [] are x = refl
-words_silent (act.Tell told ∷ acts) are x = ap (λ ws. ws ++ words_of x (told_by acts)) (told_silent x told are.0) ∙ words_silent acts are.1 x
-words_silent (a ∷ acts) are x = words_silent acts are.1 x
 
 -- ---- a part that leaves addresses alone
 pub record LeavesAddresses (v : SwitchView) (s : SwitchStep) : Type 0 where
@@ -136,6 +113,19 @@ held_live v x mac h = ap (λ (o : Option Grant). is_held (option_map (λ (g : Gr
 pub not_held : (v : SwitchView) (x : Pmac) (mac : Mac) → is_live v x ≡ false → IsHeldFor (λ y. granted v y) x mac → ⊥
 not_held v x mac none h = false≢true (sym none ∙ held_live v x mac h)
 
+-- one address is changed: where it is somebody's, it is that host's once this is granted under it
+abbrev pub StaysTo : (Pmac → Option Grant) → Pmac → Grant → Type 0
+StaysTo granted x g = (h : Grant) → granted x ≡ Some h → is_somebodys h.held ≡ true → (is_somebodys g.held ≡ true) × (g.amac ≡ h.amac)
+
+pub keeps_holders : (f h : Pmac → Option Grant) (x : Pmac) (g : Grant) → h x ≡ Some g → ((y : Pmac) → same_pmac y x ≡ false → h y ≡ f y) → StaysTo f x g →
+    KeepsHolders f h
+keeps_holders f h x g now others stays y mac is = elim (is_or_other y x) [
+  | inl it ↦
+      let still = stays is.grant (ap f (sym it) ∙ is.found) is.held in
+      record { grant = g; found = ap h it ∙ now; held = still.0; to = still.1 ∙ is.to }
+  | inr other ↦ record { grant = is.grant; found = others y other ∙ is.found; held = is.held; to = is.to }
+]
+
 -- no act frees one
 pub record Grows (v : SwitchView) (s : SwitchStep) : Type 0 where
   pub once : (x : Pmac) → grant_acts x s.acts ≤ 1
@@ -190,9 +180,6 @@ never_before v w stays x none = by (is_live v x) refl
     by : (b : Bool) → is_live v x ≡ b → is_live v x ≡ false
     by false is = is
     by true is = let h = live_held v x is in absurd (not_held w x h.0 none (stays x h.0 h.1))
-
-still_live : (v w : SwitchView) → KeepsHolders (λ x. granted v x) (λ x. granted w x) → (x : Pmac) → is_live v x ≡ true → is_live w x ≡ true
-still_live v w stays x live = let h = live_held v x live in held_live w x h.0 (stays x h.0 h.1)
 
 -- acts that free nothing
 abbrev FreesNone : Act → Type 0
@@ -275,28 +262,19 @@ grows_aside v s a = record {
   frees_none = λ x. silent_frees x s.acts a.silent;
 }
 
--- ---- an edge switch in order, while so much waits to the manager and from it
-module _ (own : Mac → Option Ip4) (r : Registry) (id : Option SwitchId) (down : List ToSwitch) where
-  pub record Good (v : SwitchView) (up : List ToManager) : Type 0 where
-    pub edge : IsGoodEdge own r (edge_of id v up down)
-    pub address_table : IsGoodAddressTable own v
-
-  -- a part of a step keeps it in order, its place and how many ports it has
+-- ---- the lists of an edge switch in order
+module _ (own : Mac → Option Ip4) where
+  -- a part of a step keeps them so, its place and how many ports it has
   pub record Keeps (v : SwitchView) (s : SwitchStep) : Type 0 where
-    pub good : (up : List ToManager) → Good v up → Good s.view (up ++ told_by s.acts)
-    pub grows : (up : List ToManager) → Good v up → Grows v s
+    pub table : IsGoodAddressTable own v → IsGoodAddressTable own s.view
+    pub grows : IsGoodAddressTable own v → Grows v s
     pub place : s.view.place ≡ v.place
     pub k : s.view.k ≡ v.k
 
-  good_up : (v : SwitchView) (a b : List ToManager) → a ≡ b → Good v a → Good v b
-  good_up v a b is good = subst (λ (t : List ToManager). Good v t) is good
-
   pub keeps_then : (v : SwitchView) (s : SwitchStep) (next : SwitchView → SwitchStep) → Keeps v s → Keeps s.view (next s.view) → Keeps v (s ▹ next)
   keeps_then v s next a b = record {
-    good = λ up good. good_up (next s.view).view ((up ++ told_by s.acts) ++ told_by (next s.view).acts) (up ++ told_by (s.acts ++ (next s.view).acts))
-        (append_assoc up (told_by s.acts) (told_by (next s.view).acts) ∙ ap (λ ts. up ++ ts) (sym (told_append s.acts (next s.view).acts)))
-        (b.good (up ++ told_by s.acts) (a.good up good));
-    grows = λ up good. grows_then v s next (a.grows up good) (b.grows (up ++ told_by s.acts) (a.good up good));
+    table = λ good. b.table (a.table good);
+    grows = λ good. grows_then v s next (a.grows good) (b.grows (a.table good));
     place = b.place ∙ a.place;
     k = b.k ∙ a.k;
   }
@@ -306,23 +284,10 @@ module _ (own : Mac → Option Ip4) (r : Registry) (id : Option SwitchId) (down 
   keeps_either v true s t a b = a refl
   keeps_either v false s t a b = b refl
 
-  same_edge : (v w : SwitchView) (up : List ToManager) → w.place ≡ v.place → w.grants ≡ v.grants → edge_of id v up down ≡ edge_of id w up down
-  same_edge v w up place grants = λ i. edge_of id (record v { place = sym place i; grants = sym grants i }) up down
-
-  pub same_good : (v w : SwitchView) (up : List ToManager) → w.place ≡ v.place → w.k ≡ v.k → w.grants ≡ v.grants → w.freed ≡ v.freed → w.remembered ≡ v.remembered → Good v up →
-      Good w up
-  same_good v w up place k grants freed remembered good = record {
-    edge = subst (λ (e : Edge). IsGoodEdge own r e) (same_edge v w up place grants) good.edge;
-    address_table = table_alike own v w place k grants freed remembered good.address_table;
-  }
-
   pub aside_keeps : (v : SwitchView) (s : SwitchStep) → LeavesAddresses v s → Keeps v s
   aside_keeps v s a = record {
-    good = λ up good. let same = same_good v s.view up a.place a.k a.grants a.freed a.remembered good in record {
-      edge = tells_more own r (edge_of id s.view up down) (told_by s.acts) (silent_words own (edge_of id s.view up down).granted s.acts a.silent) (words_silent s.acts a.silent) same.edge;
-      address_table = same.address_table;
-    };
-    grows = λ up good. grows_aside v s a;
+    table = λ good. table_alike own v s.view a.place a.k a.grants a.freed a.remembered good;
+    grows = λ good. grows_aside v s a;
     place = a.place;
     k = a.k;
   }

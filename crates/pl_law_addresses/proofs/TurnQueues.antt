@@ -1,14 +1,11 @@
--- What the acts of a switch and of the manager leave of the rest of a world.
+-- What the acts of a switch and of a host leave of the rest of a world.
 use Rattle.std.proofs.Common.{◌≡◌, ◌≢◌, ◌<◌, ◌+◌, ℕ, Bool, if◌then◌else◌, set, List, [], ◌∷◌, ◌++◌, fold, length, Option, Some, None, refl, sym, ap, subst, ◌∙◌, arith, append_assoc, append-nil, get_or-set_same, get_or-set_other, length-set}
 use Rattle.pl_pmac.specs.declared.pmac.Pmac.{Pmac}
 use Rattle.pl_node.specs.declared.acts.Act.{Act}
 use Rattle.pl_node.specs.declared.acts.Act.TheVariants as act
 use Rattle.pl_node.specs.declared.acts.HostAct.{HostAct}
 use Rattle.pl_node.specs.declared.acts.HostAct.TheVariants.{Send}
-use Rattle.pl_node.specs.declared.messages.ToManager.{ToManager}
-use Rattle.pl_node.specs.declared.messages.ToSwitch.{ToSwitch}
 use Rattle.pl_node.specs.HostViews.{HostView}
-use Rattle.pl_node.specs.ManagerViews.{ManagerView}
 use Rattle.pl_node.specs.SwitchViews.{SwitchView}
 use Rattle.pl_journal.specs.declared.entry.Entry.{Entry}
 use Rattle.pl_journal.specs.declared.entry.Entry.TheVariants.{Copied, Crossed, Dropped, Freed, Granted, Made, Placed, Redirected, Sent, Taken}
@@ -27,15 +24,11 @@ use Rattle.pl_world.specs.SwitchActs.{DuringActs, act_done, acts_done, begins, c
 use Rattle.pl_world.specs.Worlds.{WorldView}
 use Rattle.pl_law_addresses.specs.GrantedOnce.{times_freed, times_granted}
 use Rattle.pl_law_addresses.proofs.Entries.{AreNoAddressEntries, IsNoAddressEntry, freed_append, quiet_append, quiet_freed, quiet_if, quiet_times, times_append}
-use Rattle.pl_law_addresses.proofs.RowsLeaveAddresses.{told_by}
 
--- what addresses stand on in a world
+-- what grants stand on in a world
 pub record Parts : Type 0 where
   pub plan : Plan
-  pub manager : ManagerView
   pub switches : List SwitchView
-  pub up : List (List ToManager)
-  pub down : List (List ToSwitch)
   pub hosts : List HostView
   pub from_hosts : List (List Item)
   -- and how often each address was granted, and freed
@@ -43,7 +36,14 @@ pub record Parts : Type 0 where
   pub freed : Pmac → ℕ
 
 abbrev pub parts_of : WorldView → Parts
-parts_of w = record { plan = w.plan; manager = w.manager; switches = w.switches; up = w.to_manager; down = w.from_manager; hosts = w.hosts; from_hosts = w.from_hosts; times = λ x. times_granted x w.journal; freed = λ x. times_freed x w.journal }
+parts_of w = record {
+  plan = w.plan;
+  switches = w.switches;
+  hosts = w.hosts;
+  from_hosts = w.from_hosts;
+  times = λ x. times_granted x w.journal;
+  freed = λ x. times_freed x w.journal;
+}
 
 -- several items are put behind a queue
 abbrev pub all_put : {T : Type 0} → ℕ → List (List T) → List T → List (List T)
@@ -61,10 +61,6 @@ module _ {T : Type 0} (s : ℕ) where
       put_here (put_at queues s x) xs (subst (λ n. s < n) (sym (length-set queues s (items_at queues s ++ x ∷ []))) within)
       ∙ ap (λ ys. ys ++ xs) (get_or-set_same queues s (items_at queues s ++ x ∷ []) [] within)
       ∙ append_assoc (items_at queues s) (x ∷ []) xs
-
-  pub put_many : (queues : List (List T)) (xs : List T) → length (all_put s queues xs) ≡ length queues
-  put_many queues [] = refl
-  put_many queues (x ∷ xs) = put_many (put_at queues s x) xs ∙ length-set queues s (items_at queues s ++ x ∷ [])
 
 -- entries that neither grant nor free an address change nothing here
 pub quiet_parts : (w : WorldView) (entries : List Entry) → AreNoAddressEntries entries → parts_of (all_noted w entries) ≡ parts_of w
@@ -92,8 +88,8 @@ freed_after t [] = t
 freed_after t (act.Free pmac ∷ acts) = freed_after (freed_more t pmac) acts
 freed_after t (act ∷ acts) = freed_after t acts
 
-abbrev with_acts : ℕ → Parts → List Act → Parts
-with_acts s p acts = record p { up = all_put s p.up (told_by acts); times = times_after p.plan p.times acts; freed = freed_after p.freed acts }
+abbrev with_acts : Parts → List Act → Parts
+with_acts p acts = record p { times = times_after p.plan p.times acts; freed = freed_after p.freed acts }
 
 -- ---- the acts of a switch
 grant_parts : (w : WorldView) (s : ℕ) (pmac : Pmac) (h : Option ℕ) →
@@ -161,14 +157,14 @@ end_late s d end (Passed id) quiet = quiet
 end_late s d end Over quiet = quiet
 
 record Done (s : ℕ) (d : DuringActs) (acts : List Act) : Type 0 where
-  parts : parts_of (acts_done s d acts).world ≡ with_acts s (parts_of d.world) acts
+  parts : parts_of (acts_done s d acts).world ≡ with_acts (parts_of d.world) acts
   late : AreNoAddressEntries (acts_done s d acts).late
 
 -- a first act that changes nothing here
 done_first : (s : ℕ) (d : DuringActs) (a : Act) (acts : List Act) → parts_of (act_done s d a).world ≡ parts_of d.world →
-    ((p : Parts) → with_acts s p (a ∷ acts) ≡ with_acts s p acts) → Done s (act_done s d a) acts → Done s d (a ∷ acts)
+    ((p : Parts) → with_acts p (a ∷ acts) ≡ with_acts p acts) → Done s (act_done s d a) acts → Done s d (a ∷ acts)
 done_first s d a acts same silent rest = record {
-  parts = rest.parts ∙ ap (λ (p : Parts). with_acts s p acts) same ∙ sym (silent (parts_of d.world));
+  parts = rest.parts ∙ ap (λ (p : Parts). with_acts p acts) same ∙ sym (silent (parts_of d.world));
   late = rest.late;
 }
 
@@ -180,12 +176,12 @@ acts_parts s d (act.Control port frame ∷ acts) quiet =
 acts_parts s d (act.Grant pmac amac ∷ acts) quiet =
     let rest = acts_parts s (act_done s d (act.Grant pmac amac)) acts quiet in
     record {
-      parts = rest.parts ∙ ap (λ (p : Parts). with_acts s p acts) (grant_parts d.world s pmac (host_of d.world.plan amac));
+      parts = rest.parts ∙ ap (λ (p : Parts). with_acts p acts) (grant_parts d.world s pmac (host_of d.world.plan amac));
       late = rest.late;
     }
 acts_parts s d (act.Free pmac ∷ acts) quiet =
     let rest = acts_parts s (act_done s d (act.Free pmac)) acts quiet in
-    record { parts = rest.parts ∙ ap (λ (p : Parts). with_acts s p acts) (free_parts d.world pmac); late = rest.late }
+    record { parts = rest.parts ∙ ap (λ (p : Parts). with_acts p acts) (free_parts d.world pmac); late = rest.late }
 acts_parts s d (act.Make frame ∷ acts) quiet =
     done_first s d (act.Make frame) acts
     (one_quiet (begun_by (with_late d) (Made (d.world.begun + 1) (switch_no s) frame)) (Crossed (d.world.begun + 1) (switch_no s)) (λ x. refl)
@@ -204,12 +200,11 @@ acts_parts s d (act.Drop cause ∷ acts) quiet =
     done_first s d (act.Drop cause) acts (end_parts s d (λ id. Dropped id cause) d.speech (λ id x. refl)) (λ p. refl)
     (acts_parts s (act_done s d (act.Drop cause)) acts (end_late s d (λ id. Dropped id cause) d.speech quiet))
 
--- a step of a switch changes its view, tells the manager what its acts tell, and grants and frees what they do
+-- a step of a switch changes its view, and grants and frees what its acts do
 pub stepped_parts : (w : WorldView) (s : ℕ) (before after : SwitchView) (speech : SpokenFrame) (acts : List Act) →
     parts_of (switch_stepped w s before after speech acts)
     ≡ record (parts_of w) {
       switches = set w.switches s after;
-      up = all_put s w.to_manager (told_by acts);
       times = times_after w.plan (λ x. times_granted x w.journal) acts;
       freed = freed_after (λ x. times_freed x w.journal) acts;
     }

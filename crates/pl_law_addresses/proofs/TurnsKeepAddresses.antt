@@ -1,5 +1,5 @@
--- The turns of switches, hosts and the manager keep addresses in order.
-use Rattle.std.proofs.Common.{◌≡◌, if◌then◌else◌, ◌≢◌, ◌<◌, ◌≤◌, ◌+◌, ℕ, zero, suc, Bool, true, false, set, List, [], ◌∷◌, ◌++◌, length, Option, Some, None, slice_get, refl, sym, ap, subst, ◌∙◌, inl, inr, arith}
+-- The turns of switches and hosts keep grants in order.
+use Rattle.std.proofs.Common.{◌≡◌, if◌then◌else◌, ◌<◌, ◌≤◌, ◌+◌, ℕ, zero, suc, Bool, true, false, set, List, [], ◌∷◌, length, Option, Some, None, slice_get, refl, sym, ap, subst, ◌∙◌, inl, inr, arith}
 use Rattle.std.specs.List.{AllByRecursion}
 use Rattle.std.proofs.lemmas.Bool.{cases_eq, cases_lt}
 use Rattle.std.proofs.lemmas.List.{get_or_past}
@@ -9,43 +9,32 @@ use Rattle.pl_frame.specs.declared.address.Mac.{Mac}
 use Rattle.pl_pmac.specs.declared.pmac.Pmac.{Pmac}
 use Rattle.pl_layouts.specs.Equality.{same_pmac}
 use Rattle.pl_world.specs.Changes.{host_of}
-use Rattle.pl_wiring.specs.Plan.{IsPlan, Plan}
+use Rattle.pl_wiring.specs.Plan.{Plan}
 use Rattle.pl_node.specs.declared.acts.Act.{Act}
 use Rattle.pl_node.specs.declared.acts.Act.TheVariants as act
-use Rattle.pl_node.specs.declared.acts.ManagerAct.{ManagerAct}
-use Rattle.pl_node.specs.declared.messages.ToManager.{ToManager}
-use Rattle.pl_node.specs.declared.messages.ToSwitch.{ToSwitch}
 use Rattle.pl_node.specs.HostDuties.{HoldsData, HostsSendData, HostsSendOwn}
 use Rattle.pl_node.specs.HostInputs.{HostAnswer, HostInput, HostRule}
-use Rattle.pl_node.specs.ManagerViews.{ManagerView}
 use Rattle.pl_node.specs.SwitchInputs.{SwitchInput}
 use Rattle.pl_node.specs.SwitchViews.{SwitchView}
 use Rattle.pl_layouts.specs.declared.place.Place.{Place}
-use Rattle.pl_manager_rule.specs.Histories.{known}
-use Rattle.pl_manager_rule.specs.ManagerRule.{manager_hears, manager_rule}
 use Rattle.pl_queues.specs.Queues.{items_at}
 use Rattle.pl_switch_rule.specs.Forwarding.{Choice}
 use Rattle.pl_switch_rule.specs.Granting.{granted}
 use Rattle.pl_switch_rule.specs.SwitchRule.{Loose, switch_step}
 use Rattle.pl_switch_rule.proofs.Exports.{granted_parts}
 use Rattle.pl_world.specs.declared.spoken_frame.SpokenFrame.{SpokenFrame}
-use Rattle.pl_world.specs.WorldRule.{DeliversToManager, HostTurn, ManagerTurn, SwitchTurn}
+use Rattle.pl_world.specs.WorldRule.{HostTurn, SwitchTurn}
 use Rattle.pl_world.specs.Worlds.{WorldView}
 use Rattle.pl_law_addresses.specs.OwnAddresses.{own_ip}
 use Rattle.pl_law_addresses.specs.OwnFrames.{AreOwnHosts}
-use Rattle.pl_law_addresses.specs.Registries.{registry_of}
-use Rattle.pl_law_addresses.specs.EdgeAddresses.{IsHeldFor, is_live, is_settled}
+use Rattle.pl_law_addresses.specs.EdgeAddresses.{IsGoodAddressTable, IsHeldFor, is_live, is_settled}
 use Rattle.pl_law_addresses.specs.GrantedOnce.{HasGranted, IsOnce, times_freed, times_granted}
-use Rattle.pl_law_addresses.specs.Addressed.{AreAddressed, AreApart, IsLiveNowhere, StayGranted}
-use Rattle.pl_law_addresses.proofs.Hearing.{heard_addressed}
+use Rattle.pl_law_addresses.specs.Addressed.{AreApart, IsLiveNowhere, StayGranted}
 use Rattle.pl_law_addresses.proofs.OwnHosts.{host_step_own}
-use Rattle.pl_law_addresses.proofs.Placing.{IsUnknown}
-use Rattle.pl_law_addresses.proofs.RowsLeaveAddresses.{Good, IsGrantedThen, Turns, free_acts, grant_acts, live_held, not_held, some_grant, told_by}
-use Rattle.pl_law_addresses.proofs.SaidByManager.{all_said, said_parts}
-use Rattle.pl_law_addresses.proofs.Stepped.{switch_addressed, unknown_there}
+use Rattle.pl_law_addresses.proofs.RowsLeaveAddresses.{IsGrantedThen, Turns, free_acts, grant_acts, live_held, not_held, some_grant}
 use Rattle.pl_law_addresses.proofs.SwitchSteps.{Brings}
 use Rattle.pl_law_addresses.proofs.AddressLemmas.{get-set_other, get-set_same}
-use Rattle.pl_law_addresses.proofs.TurnQueues.{Parts, all_put, freed_after, freed_more, granted_more, host_parts, items_sent, parts_of, put_here, put_there, stepped_parts, times_after}
+use Rattle.pl_law_addresses.proofs.TurnQueues.{Parts, all_put, freed_after, freed_more, granted_more, host_parts, items_sent, parts_of, stepped_parts, times_after}
 
 -- how much more often an address is granted
 more_bounds : (plan : Plan) (x : Pmac) (t : Pmac → ℕ) (acts : List Act) → (t x ≤ times_after plan t acts x) × (times_after plan t acts x ≤ t x + grant_acts x acts)
@@ -133,9 +122,9 @@ no_moment = record { switches = []; times = λ x. 0; freed = λ x. 0 }
 abbrev pub moment_of : WorldView → Earlier
 moment_of w = record { switches = w.switches; times = λ x. times_granted x w.journal; freed = λ x. times_freed x w.journal }
 
--- addresses are in order, and hosts send frames of their own
+-- the lists of switches are in order, and hosts send frames of their own
 pub record InOrder (before : Earlier) (p : Parts) : Type 0 where
-  pub addressed : AreAddressed p.plan p.manager p.switches p.up p.down
+  pub tables : (s : ℕ) (v : SwitchView) → slice_get p.switches s ≡ Some v → IsGoodAddressTable (λ mac. own_ip p.plan mac) v
   pub own : AreOwnHosts p.plan p.hosts p.from_hosts
   -- what was somebody's at that moment is so still, unless it was freed since
   pub since : StayGranted before.switches p.switches (λ x. p.freed x ≡ before.freed x)
@@ -174,39 +163,35 @@ module _ (first : Earlier) where
           absurd (nobody t still.view still.found h.0 (still.keeps x h.0 kept h.1))
 
   -- ---- a switch
-  pub switch_turn : (w : WorldView) (s : ℕ) (input : SwitchInput) (speech : SpokenFrame) (new : WorldView) (down : List (List ToSwitch)) →
-      InOrder first (record (parts_of w) { down = down }) → ((t : ℕ) → t ≢ s → items_at w.from_manager t ≡ items_at down t) → length w.to_manager ≡ length w.switches →
-      AreApart new.switches →
-      ((v : SwitchView) → slice_get w.switches s ≡ Some v → (choose : Choice) →
-      Brings (λ mac. own_ip w.plan mac) (registry_of w.manager.learnt) (slice_get w.plan.ids s) choose (items_at down s) (items_at w.from_manager s) v (switch_step choose v input)) →
+  pub switch_turn : (w : WorldView) (s : ℕ) (input : SwitchInput) (speech : SpokenFrame) (new : WorldView) → InOrder first (parts_of w) →
+      AreApart new.switches → ((v : SwitchView) → slice_get w.switches s ≡ Some v → (choose : Choice) → Brings (λ mac. own_ip w.plan mac) choose v (switch_step choose v input)) →
       SwitchTurn Loose w s input speech new → InOrder first (parts_of new)
-  switch_turn w s input speech new down o there many apart brings turn =
+  switch_turn w s input speech new o apart brings turn =
       let step = switch_step turn.ruled.choose turn.before input in
       let b = brings turn.before turn.found turn.ruled.choose in
       let after : turn.after ≡ step.view = turn.ruled.steps.view in
       let acts : turn.acts ≡ step.acts = turn.ruled.steps.done in
-      let parts : parts_of new ≡ record (parts_of w) { switches = set w.switches s turn.after; up = all_put s w.to_manager (told_by turn.acts); times = times_after w.plan (λ x. times_granted x w.journal) turn.acts; freed = freed_after (λ x. times_freed x w.journal) turn.acts } =
+      let parts : parts_of new ≡ record (parts_of w) {
+        switches = set w.switches s turn.after;
+        times = times_after w.plan (λ x. times_granted x w.journal) turn.acts;
+        freed = freed_after (λ x. times_freed x w.journal) turn.acts;
+      } =
       ap parts_of turn.changed ∙ stepped_parts w s turn.before turn.after speech turn.acts in
       let switches : AreApart (set w.switches s turn.after) = subst (λ (p : Parts). AreApart p.switches) parts apart in
-      let within : s < length w.to_manager = subst (λ n. s < n) (sym many) (slice_get_within w.switches s turn.before turn.found) in
-      let unknown : IsUnknown (registry_of w.manager.learnt) turn.before step.view.place =
-      subst (λ (v : SwitchView). IsUnknown (registry_of w.manager.learnt) turn.before v.place) after
-      (unknown_there w.plan w.manager w.switches w.to_manager down o.addressed s turn.before turn.after turn.found switches) in
-      let ready : Good (λ mac. own_ip w.plan mac) (registry_of w.manager.learnt) (slice_get w.plan.ids s) (items_at down s) turn.before (items_at w.to_manager s) = record { edge = o.addressed.edges s turn.before turn.found; address_table = o.addressed.address_tables s turn.before turn.found } in
-      let turned : Turns turn.before step = b.turns (items_at w.to_manager s) unknown ready in
+      let there_now : slice_get (set w.switches s turn.after) s ≡ Some turn.after =
+      get-set_same w.switches s turn.after (slice_get_within w.switches s turn.before turn.found) in
+      let table = o.tables s turn.before turn.found in
+      let turned : Turns turn.before step = b.turns table in
       let many_freed : (x : Pmac) → freed_after (λ y. times_freed y w.journal) turn.acts x ≡ times_freed x w.journal + free_acts x step.acts =
       λ x. freed_is x (λ y. times_freed y w.journal) turn.acts ∙ ap (λ xs. times_freed x w.journal + free_acts x xs) acts in
       subst (λ (p : Parts). InOrder first p) (sym parts) (record {
-        addressed = switch_addressed w.plan w.manager w.switches w.to_manager down o.addressed s turn.before turn.after turn.found switches
-            (all_put s w.to_manager (told_by turn.acts)) w.from_manager (items_at w.to_manager s ++ told_by turn.acts) (items_at w.from_manager s)
-            (record { here = put_here s w.to_manager (told_by turn.acts) within; there = put_there s w.to_manager (told_by turn.acts) })
-            (record { here = refl; there = there })
-            (λ good.
-            subst (λ (v : SwitchView). Good (λ mac. own_ip w.plan mac) (registry_of w.manager.learnt) (slice_get w.plan.ids s) (items_at w.from_manager s) v
-            (items_at w.to_manager s ++ told_by turn.acts)) (sym after)
-            (subst (λ (xs : List Act). Good (λ mac. own_ip w.plan mac) (registry_of w.manager.learnt) (slice_get w.plan.ids s) (items_at w.from_manager s) step.view
-            (items_at w.to_manager s ++ told_by xs)) (sym acts) (b.good unknown (items_at w.to_manager s) good)))
-            (λ good settled. ap (λ (v : SwitchView). v.place) after ∙ b.place (items_at w.to_manager s) good settled);
+        tables = λ t u is. elim (cases_eq t s) [
+          | inr other ↦ o.tables t u (sym (get-set_other w.switches s t turn.after other) ∙ is)
+          | inl same ↦
+              let view : turn.after ≡ u = same_Some turn.after u (sym there_now ∙ ap (slice_get (set w.switches s turn.after)) (sym same) ∙ is) in
+              subst (λ (v : SwitchView). IsGoodAddressTable (λ mac. own_ip w.plan mac) v) view
+              (subst (λ (v : SwitchView). IsGoodAddressTable (λ mac. own_ip w.plan mac) v) (sym after) (b.table table))
+        ];
         own = o.own;
         once = λ x.
             let bounds = more_bounds w.plan x (λ y. times_granted y w.journal) turn.acts in
@@ -247,7 +232,7 @@ module _ (first : Earlier) where
               let view : still.view ≡ turn.before = same_Some still.view turn.before (sym still.found ∙ ap (slice_get w.switches) same ∙ turn.found) in
               record {
                 view = turn.after;
-                found = ap (slice_get (set w.switches s turn.after)) same ∙ get-set_same w.switches s turn.after (slice_get_within w.switches s turn.before turn.found);
+                found = ap (slice_get (set w.switches s turn.after)) same ∙ there_now;
                 keeps = λ x mac kept h.
                     let before = o.rises x in
                     let sum = many_freed x in
@@ -256,7 +241,7 @@ module _ (first : Earlier) where
                     (subst (λ (u : SwitchView). IsHeldFor (λ y. granted u y) x mac) view (still.keeps x mac (omega (arith, before, sum, kept)) h)));
                 place = λ settled.
                     let p : turn.before.place ≡ v.place = ap (λ (u : SwitchView). u.place) (sym view) ∙ still.place settled in
-                    ap (λ (u : SwitchView). u.place) after ∙ b.place (items_at w.to_manager s) ready (ap (λ (q : Place). is_settled q) p ∙ settled) ∙ p;
+                    ap (λ (u : SwitchView). u.place) after ∙ b.place (ap (λ (q : Place). is_settled q) p ∙ settled) ∙ p;
               }
         ];
       })
@@ -269,7 +254,7 @@ module _ (first : Earlier) where
       ap parts_of turn.changed ∙ host_parts h (record w { hosts = set w.hosts h turn.after }) turn.acts in
       let within : h < length w.from_hosts = subst (λ n. h < n) (sym many) (slice_get_within w.hosts h turn.before turn.found) in
       subst (λ (p : Parts). InOrder first p) (sym parts) (record {
-        addressed = o.addressed;
+        tables = o.tables;
         own = host_step_own rule sends owns w.plan w.hosts w.from_hosts h w.begun turn.before turn.after input turn.acts answer turn.found
             (all_found HoldsData w.hosts h turn.before holding turn.found) within turn.ruled o.own;
         since = o.since;
@@ -277,28 +262,3 @@ module _ (first : Earlier) where
         given = o.given;
         once = o.once;
       })
-
-  -- ---- the manager
-  module _ (w : WorldView) (is_plan : IsPlan w.plan) (o : InOrder first (parts_of w)) (ups : length w.to_manager ≡ length w.switches) (ids : length w.switches ≡ length w.plan.ids)
-      (downs : length w.from_manager ≡ length w.plan.ids) (apart : AreApart w.switches) where
-    manager_turn : (s : ℕ) (told : ToManager) (items : List ToManager) (new : WorldView) → items_at w.to_manager s ≡ told ∷ items →
-        ManagerTurn manager_rule (record w { to_manager = set w.to_manager s items }) s told new → InOrder first (parts_of new)
-    manager_turn s told items new head turn =
-        let tale = o.addressed.told in
-        let sender = exists_at w.switches s (subst (λ n. s < n) (sym ids) (slice_get_within w.plan.ids s turn.id turn.found)) in
-        let before : AreAddressed w.plan (known w.plan.k tale.words) w.switches w.to_manager w.from_manager =
-        subst (λ (m : ManagerView). AreAddressed w.plan m w.switches w.to_manager w.from_manager) tale.knows o.addressed in
-        let heard = heard_addressed w.plan is_plan tale.words w.switches w.to_manager w.from_manager before downs apart s turn.id turn.found sender.0 sender.1 items
-        (filled_within w.to_manager s told items head) told head in
-        let view : turn.after ≡ (manager_hears (known w.plan.k tale.words) turn.id told).view = turn.ruled.0 ∙ ap (λ (m : ManagerView). (manager_hears m turn.id told).view) tale.knows in
-        let acts : turn.acts ≡ (manager_hears (known w.plan.k tale.words) turn.id told).acts = turn.ruled.1 ∙ ap (λ (m : ManagerView). (manager_hears m turn.id told).acts) tale.knows in
-        let parts : parts_of new ≡ record (parts_of w) { manager = turn.after; up = set w.to_manager s items; down = all_said w.plan w.from_manager turn.acts } =
-        ap parts_of turn.changed ∙ said_parts (record w { to_manager = set w.to_manager s items; manager = turn.after }) turn.acts in
-        let goal : AreAddressed w.plan turn.after w.switches (set w.to_manager s items) (all_said w.plan w.from_manager turn.acts) =
-        subst (λ (m : ManagerView). AreAddressed w.plan m w.switches (set w.to_manager s items) (all_said w.plan w.from_manager turn.acts)) (sym view)
-        (subst (λ (xs : List ManagerAct). AreAddressed w.plan (manager_hears (known w.plan.k tale.words) turn.id told).view w.switches (set w.to_manager s items) (all_said w.plan w.from_manager xs)) (sym acts) heard) in
-        subst (λ (p : Parts). InOrder first p) (sym parts) (record { addressed = goal; own = o.own; since = o.since; rises = o.rises; given = o.given; once = o.once })
-
-    pub delivers_to_manager : (s : ℕ) (items : List ToManager) (new : WorldView) → items_at w.to_manager s ≡ items → DeliversToManager manager_rule w s items new → InOrder first (parts_of new)
-    delivers_to_manager s [] new is turn = absurd turn
-    delivers_to_manager s (told ∷ items) new is turn = manager_turn s told items new is turn

@@ -1,4 +1,4 @@
--- The addresses of a whole fabric, and what is needed of other parts of it.
+-- What the switches of a whole fabric granted, and what is needed of other parts of it.
 use Rattle.std.specs.Prelude.{◌≡◌, ℕ, true, false, Contains, List, Some, slice_get}
 use Rattle.pl_frame.specs.declared.address.Mac.{Mac}
 use Rattle.pl_pmac.specs.declared.pmac.Pmac.{Pmac}
@@ -6,15 +6,10 @@ use Rattle.pl_wiring.specs.declared.label.SwitchNo.{SwitchNo}
 use Rattle.pl_wiring.specs.declared.link.Peer.TheVariants.{Switch}
 use Rattle.pl_wiring.specs.Peers.{peer_of}
 use Rattle.pl_wiring.specs.Plan.{Plan}
-use Rattle.pl_node.specs.declared.messages.ToManager.{ToManager}
-use Rattle.pl_node.specs.declared.messages.ToSwitch.{ToSwitch}
 use Rattle.pl_node.specs.HostInputs.{HostRule}
-use Rattle.pl_node.specs.ManagerViews.{ManagerView, Registration, registration}
 use Rattle.pl_node.specs.PortRecords.{is_open_to_hosts, port_of}
 use Rattle.pl_node.specs.SwitchViews.{SwitchView}
-use Rattle.pl_manager_rule.specs.Histories.{Word, known}
-use Rattle.pl_manager_rule.specs.ManagerRule.{manager_rule}
-use Rattle.pl_queues.specs.Queues.{items_at}
+use Rattle.pl_manager_rule.specs.WholeRule.{whole_rule}
 use Rattle.pl_switch_rule.specs.Granting.{granted, is_local}
 use Rattle.pl_switch_rule.specs.SwitchRule.{Loose}
 use Rattle.pl_world.specs.declared.item.Item.TheVariants.{Data}
@@ -23,34 +18,7 @@ use Rattle.pl_world.specs.Booting.{booted}
 use Rattle.pl_world.specs.Changes.{out_of}
 use Rattle.pl_world.specs.Runs.{Moment, WorldRun}
 use Rattle.pl_world.specs.Worlds.{WorldView}
-use Rattle.pl_law_addresses.specs.OwnAddresses.{own_ip}
-use Rattle.pl_law_addresses.specs.Registries.{IsGoodRegistry, registry_of}
-use Rattle.pl_law_addresses.specs.EdgeAddresses.{IsGoodAddressTable, IsGoodEdge, IsHeldFor, edge_of, is_live, is_settled}
-
--- some switch of the world has the place of this address
-pub record HasHome (switches : List SwitchView) (x : Pmac) : Type 0 where
-  pub switch : ℕ
-  pub view : SwitchView
-  pub found : slice_get switches switch ≡ Some view
-  pub at : is_local view x ≡ true
-
--- all that the manager knows it was told
-pub record WasTold (k : ℕ) (manager : ManagerView) : Type 0 where
-  pub words : List Word
-  pub knows : manager ≡ known k words
-
--- The registry is in order, so is each switch with what waits between it and the manager, and a registered address is of the place of some edge
--- switch.
-pub record AreAddressed (plan : Plan) (manager : ManagerView) (switches : List SwitchView) (up : List (List ToManager)) (down : List (List ToSwitch)) : Type 0 where
-  pub told : WasTold plan.k manager
-  pub registry : IsGoodRegistry (λ mac. own_ip plan mac) (registry_of manager.learnt)
-  pub edges : (s : ℕ) (v : SwitchView) → slice_get switches s ≡ Some v →
-      IsGoodEdge (λ mac. own_ip plan mac) (registry_of manager.learnt) (edge_of (slice_get plan.ids s) v (items_at up s) (items_at down s))
-  pub address_tables : (s : ℕ) (v : SwitchView) → slice_get switches s ≡ Some v → IsGoodAddressTable (λ mac. own_ip plan mac) v
-  pub homed : (x : Pmac) (reg : Registration) → registration manager.learnt x ≡ Some reg → HasHome switches x
-
-abbrev pub IsAddressed : WorldView → Type 0
-IsAddressed w = AreAddressed w.plan w.manager w.switches w.to_manager w.from_manager
+use Rattle.pl_law_addresses.specs.EdgeAddresses.{IsHeldFor, is_live, is_settled}
 
 -- some switch has granted it to this host, and it is not free
 pub record IsGrantedBySome (switches : List SwitchView) (x : Pmac) (mac : Mac) : Type 0 where
@@ -92,4 +60,4 @@ pub record IsGrounded (w : WorldView) : Type 0 where
 
 -- and so in every run from the beginning
 abbrev pub AreGrounded : HostRule → Plan → Limits → Type 0
-AreGrounded host plan limits = (moments : List Moment) (w : WorldView) → WorldRun Loose manager_rule host (booted plan limits) moments w → IsGrounded w
+AreGrounded host plan limits = (moments : List Moment) (w : WorldView) → WorldRun Loose whole_rule host (booted plan limits) moments w → IsGrounded w

@@ -1,9 +1,9 @@
 pub mod OwnAddresses
 pub mod OwnFrames
-pub mod Registries
 pub mod FreeVmids
 pub mod EdgeAddresses
 pub mod Addressed
+pub mod Orders
 pub mod Standing
 pub mod Registered
 pub mod GrantedOnce

@@ -1,7 +1,6 @@
--- Traps that stand, and addresses that are registered.
+-- Traps that stand, and addresses that stand for nothing.
 use Rattle.std.specs.Prelude.{◌≡◌, ◌⊎◌, ℕ, Contains, List, [], Option, Some, None, slice_get}
 use Rattle.pl_frame.specs.declared.address.Ip4.{Ip4}
-use Rattle.pl_frame.specs.declared.address.Mac.{Mac}
 use Rattle.pl_pmac.specs.declared.pmac.Pmac.{Pmac}
 use Rattle.pl_node.specs.declared.messages.ToSwitch.{ToSwitch}
 use Rattle.pl_node.specs.declared.messages.ToSwitch.TheVariants.{Invalidate}
@@ -13,9 +12,7 @@ use Rattle.pl_node.specs.SwitchViews.{SwitchView}
 use Rattle.pl_queues.specs.Queues.{items_at}
 use Rattle.pl_switch_rule.specs.Granting.{granted}
 use Rattle.pl_world.specs.Worlds.{WorldView}
-use Rattle.pl_law_phases.specs.Tenures.{orders_of}
-use Rattle.pl_law_addresses.specs.EdgeAddresses.{IsHeldFor}
-use Rattle.pl_law_addresses.specs.Registries.{LeadsToNewer, Registry}
+use Rattle.pl_law_addresses.specs.Orders.{orders_of}
 
 -- an edge switch has set a trap from one address to another, with this number
 pub record HasTrap (v : SwitchView) (old new : Pmac) (number : ℕ) : Type 0 where
@@ -34,12 +31,6 @@ pub record IsOrdered (down : List ToSwitch) (old new : Pmac) (number : ℕ) : Ty
 -- a trap stands from the moment at which the manager sends it
 abbrev pub IsStanding : SwitchView → List ToSwitch → Pmac → Pmac → ℕ → Type 0
 IsStanding v down old new number = HasTrap v old new number ⊎ IsOrdered down old new number
-
--- both addresses of it are of one host, and the newer one has a larger number
-pub record LeadsHost (r : Registry) (v : SwitchView) (old new : Pmac) (number : ℕ) : Type 0 where
-  pub mac : Mac
-  pub granted_to : IsHeldFor (λ x. granted v x) old mac
-  pub leads : LeadsToNewer r old new number mac
 
 -- The fabric manager does not know an address. No trap stands from it or to it, and no message to an edge switch speaks of it.
 pub record StandsForNothing (w : WorldView) (x : Pmac) : Type 0 where

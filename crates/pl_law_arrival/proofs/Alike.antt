@@ -9,11 +9,13 @@ use Rattle.pl_wiring.specs.Plan.{IsPlan, Plan}
 use Rattle.pl_node.specs.ManagerViews.{Told, place_of}
 use Rattle.pl_node.specs.PortRecords.{is_usable}
 use Rattle.pl_node.specs.SwitchViews.{SwitchView}
-use Rattle.pl_manager_rule.specs.ManagerRule.{manager_rule}
+use Rattle.pl_manager_rule.specs.WholeRule.{whole_rule}
 use Rattle.pl_switch_rule.specs.SwitchRule.{Loose}
 use Rattle.pl_law_control_plane.specs.ControlPlanes.{AreAdjacent, ControlPlane}
 use Rattle.pl_law_control_plane.specs.PlaneSteps.{PlaneStep}
 use Rattle.pl_law_control_plane.specs.PlaneSteps.PlaneStep.{Carried, Entered, Heard, Left, Managed, Ordered, Ticked}
+use Rattle.pl_law_control_plane.specs.Restarts.{OnPlane}
+use Rattle.pl_law_control_plane.specs.Restarts.OnPlane.{BeginsAnew, Steps}
 use Rattle.pl_law_control_plane.proofs.Exports.{adjacent_there, adjacent_turned}
 use Rattle.pl_law_arrival.specs.Ways.{Alike, AreLinked, Fabric, IsLast, IsTop, LeadsBy, LeadsDown}
 use Rattle.pl_law_arrival.proofs.Calm.{Calm, Net, fabric}
@@ -92,8 +94,8 @@ module _ (m n : Net) (before : Calm m) (after : Calm n) (plan : n.plan ≡ m.pla
         ∙ ap (λ (i : SwitchId). place_of n.told i) id ∙ ap (λ (t : Told). place_of t (m.view s).id) told ∙ before.places s within;
   }
 
--- a step changes what the manager was told, or what switches know
-pub one_of_both : (f g : ControlPlane) → PlaneStep Loose manager_rule f g → (g.manager ≡ f.manager) ⊎ ((s : ℕ) → g.view s ≡ f.view s)
+-- a step changes what the manager was told, or what switches know; a restart nothing at switches
+one_of_both : (f g : ControlPlane) → PlaneStep Loose whole_rule f g → (g.manager ≡ f.manager) ⊎ ((s : ℕ) → g.view s ≡ f.view s)
 one_of_both f g (Left left) = inl left.manager
 one_of_both f g (Ticked s turns) = inl turns.acted.manager
 one_of_both f g (Heard t q s port frame mid adjacent control taken turns) = inl (turns.acted.manager ∙ taken.left.manager)
@@ -101,3 +103,7 @@ one_of_both f g (Carried t q s port frame mid adjacent control carries taken tur
 one_of_both f g (Entered s port frame edge within free control turns) = inl turns.acted.manager
 one_of_both f g (Ordered s says mid taken turns) = inl (turns.acted.manager ∙ taken.left.manager)
 one_of_both f g (Managed s id told mid there named taken turns) = inr (λ t. turns.view t ∙ taken.left.view t)
+
+pub one_of_both_on : (f g : ControlPlane) → OnPlane Loose whole_rule f g → (g.manager ≡ f.manager) ⊎ ((s : ℕ) → g.view s ≡ f.view s)
+one_of_both_on f g (Steps step) = one_of_both f g step.0
+one_of_both_on f g (BeginsAnew anew) = inr anew.alike.view

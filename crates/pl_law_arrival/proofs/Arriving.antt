@@ -9,7 +9,7 @@ use Rattle.pl_journal.specs.Flights.{ended_by, ends, is_frame}
 use Rattle.pl_node.specs.HostDuties.{HostsKeepFrames, HostsSendData, HostsSendOwn}
 use Rattle.pl_node.specs.HostInputs.{HostRule}
 use Rattle.pl_node.proofs.Exports.{among_append, among_of_Contains, Contains-of_among, IsAmong}
-use Rattle.pl_manager_rule.specs.ManagerRule.{manager_rule}
+use Rattle.pl_manager_rule.specs.WholeRule.{whole_rule}
 use Rattle.pl_switch_rule.specs.SwitchRule.{Loose}
 use Rattle.pl_queues.specs.Queues.{items_at}
 use Rattle.pl_world.specs.declared.item.Item.{Item}
@@ -97,14 +97,14 @@ receiver_of (Arrived id h frame) = h.0
 receiver_of entry = 0
 
 module _ (host : HostRule) (sends : HostsSendData host) (owns : HostsSendOwn host) (keeps : HostsKeepFrames host) where
-  run_more : (old mid new : WorldView) (moments : List Moment) (moment : Moment) → WorldRun Loose manager_rule host old moments mid →
-      Befalls Loose manager_rule host mid moment new → WorldRun Loose manager_rule host old (moments ++ moment ∷ []) new
-  run_more old mid new [] moment run more = (new, subst (λ (w : WorldView). Befalls Loose manager_rule host w moment new) run more, refl)
+  run_more : (old mid new : WorldView) (moments : List Moment) (moment : Moment) → WorldRun Loose whole_rule host old moments mid →
+      Befalls Loose whole_rule host mid moment new → WorldRun Loose whole_rule host old (moments ++ moment ∷ []) new
+  run_more old mid new [] moment run more = (new, subst (λ (w : WorldView). Befalls Loose whole_rule host w moment new) run more, refl)
   run_more old mid new (first ∷ moments) moment run more = (run.0, run.1, run_more run.0 mid new moments moment run.2 more)
 
   -- a moment between two sure ones
   moment_keeps : (id h g : ℕ) (x : Pmac) (old : WorldView) (moment : Moment) (new : WorldView) → Ready old → Ready new → (before : Reaches old h g x) (after : Reaches new h g x) →
-      (IsLostAt old moment id → ⊥) → Befalls Loose manager_rule host old moment new → IsOnTrack old h g before.to.attachment.edge.0 x id → IsOnTrack new h g after.to.attachment.edge.0 x id
+      (IsLostAt old moment id → ⊥) → Befalls Loose whole_rule host old moment new → IsOnTrack old h g before.to.attachment.edge.0 x id → IsOnTrack new h g after.to.attachment.edge.0 x id
   moment_keeps id h g x old (Step happens) new r ahead before after kept befalls on =
       step_keeps host keeps old new r ahead h g x id before after on happens befalls.0 kept befalls.1
   moment_keeps id h g x old (Mark entry) new r ahead before after kept befalls on =
@@ -116,8 +116,8 @@ module _ (host : HostRule) (sends : HostsSendData host) (owns : HostsSendOwn hos
   abbrev AtEnd : ℕ → ℕ → ℕ → Pmac → WorldView → Type 0
   AtEnd id h g x new = (t : ℕ) × IsOnTrack new h g t x id
 
-  stays_on : (plan : Plan) (limits : Limits) → CanBegin plan → (id h g : ℕ) (x : Pmac) (before : List Moment) (old : WorldView) → WorldRun Loose manager_rule host (booted plan limits) before old →
-      (moments : List Moment) (new : WorldView) (reach : Reaches old h g x) → IsOnTrack old h g reach.to.attachment.edge.0 x id → StaysSure Loose manager_rule host id h g x old moments new →
+  stays_on : (plan : Plan) (limits : Limits) → CanBegin plan → (id h g : ℕ) (x : Pmac) (before : List Moment) (old : WorldView) → WorldRun Loose whole_rule host (booted plan limits) before old →
+      (moments : List Moment) (new : WorldView) (reach : Reaches old h g x) → IsOnTrack old h g reach.to.attachment.edge.0 x id → StaysSure Loose whole_rule host id h g x old moments new →
       AtEnd id h g x new
   stays_on plan limits can id h g x before old run [] new reach on stays = (reach.to.attachment.edge.0, subst (λ (w : WorldView). IsOnTrack w h g reach.to.attachment.edge.0 x id) (sym stays.1) on)
   stays_on plan limits can id h g x before old run (moment ∷ moments) new reach on stays =
@@ -129,30 +129,30 @@ module _ (host : HostRule) (sends : HostsSendData host) (owns : HostsSendOwn hos
       stays_on plan limits can id h g x (before ++ moment ∷ []) next.0 longer moments new sure.reaches
       (moment_keeps id h g x old moment next.0 (ready old order stays.0.settled) (ready next.0 later sure.settled) reach sure.reaches stays.1 next.1 on) next.2
     where
-      first_sure : (w : WorldView) (ms : List Moment) → StaysSure Loose manager_rule host id h g x w ms new → IsSureMoment w h g x
+      first_sure : (w : WorldView) (ms : List Moment) → StaysSure Loose whole_rule host id h g x w ms new → IsSureMoment w h g x
       first_sure w [] s = s.0
       first_sure w (m ∷ ms) s = s.0
 
-  sure_at_first : (id h g : ℕ) (x : Pmac) (old : WorldView) (moments : List Moment) (new : WorldView) → StaysSure Loose manager_rule host id h g x old moments new → IsSureMoment old h g x
+  sure_at_first : (id h g : ℕ) (x : Pmac) (old : WorldView) (moments : List Moment) (new : WorldView) → StaysSure Loose whole_rule host id h g x old moments new → IsSureMoment old h g x
   sure_at_first id h g x old [] new s = s.0
   sure_at_first id h g x old (m ∷ ms) new s = s.0
 
-  adjacent_runs : (old mid new : WorldView) (before : List Moment) (id h g : ℕ) (x : Pmac) (moments : List Moment) → WorldRun Loose manager_rule host old before mid →
-      StaysSure Loose manager_rule host id h g x mid moments new → (all : List Moment) × WorldRun Loose manager_rule host old all new
-  adjacent_runs old mid new before id h g x [] run stays = (before, subst (λ (w : WorldView). WorldRun Loose manager_rule host old before w) (sym stays.1) run)
+  adjacent_runs : (old mid new : WorldView) (before : List Moment) (id h g : ℕ) (x : Pmac) (moments : List Moment) → WorldRun Loose whole_rule host old before mid →
+      StaysSure Loose whole_rule host id h g x mid moments new → (all : List Moment) × WorldRun Loose whole_rule host old all new
+  adjacent_runs old mid new before id h g x [] run stays = (before, subst (λ (w : WorldView). WorldRun Loose whole_rule host old before w) (sym stays.1) run)
   adjacent_runs old mid new before id h g x (m ∷ ms) run stays =
       adjacent_runs old stays.2.0 new (before ++ m ∷ []) id h g x ms (run_more old mid stays.2.0 before m run stays.2.1) stays.2.2
 
-  runs_adjacent : (old mid new : WorldView) (first second : List Moment) → WorldRun Loose manager_rule host old first mid → WorldRun Loose manager_rule host mid second new →
-      WorldRun Loose manager_rule host old (first ++ second) new
-  runs_adjacent old mid new [] second one other = subst (λ (w : WorldView). WorldRun Loose manager_rule host w second new) one other
+  runs_adjacent : (old mid new : WorldView) (first second : List Moment) → WorldRun Loose whole_rule host old first mid → WorldRun Loose whole_rule host mid second new →
+      WorldRun Loose whole_rule host old (first ++ second) new
+  runs_adjacent old mid new [] second one other = subst (λ (w : WorldView). WorldRun Loose whole_rule host w second new) one other
   runs_adjacent old mid new (m ∷ first) second one other = (one.0, one.1, runs_adjacent one.0 mid new first second one.2 other)
 
   -- the moment that sends a frame puts it into the queue of its host
-  waits_at_once : (old : WorldView) (moment : Moment) (sent : WorldView) (id h : ℕ) (frame : List ℕ) → IsCounted old → Befalls Loose manager_rule host old moment sent →
+  waits_at_once : (old : WorldView) (moment : Moment) (sent : WorldView) (id h : ℕ) (frame : List ℕ) → IsCounted old → Befalls Loose whole_rule host old moment sent →
       Contains sent.journal (Sent id (host_no h) frame) → (Contains old.journal (Sent id (host_no h) frame) → ⊥) → IsAmong (Data id frame) (items_at sent.from_hosts h)
   waits_at_once old (Step happens) sent id h frame counted befalls there fresh =
-      elim (waits_since Loose manager_rule host old sent counted happens befalls.1 id h frame (among_of_Contains (Sent id (host_no h) frame) sent.journal there)) [
+      elim (waits_since Loose whole_rule host old sent counted happens befalls.1 id h frame (among_of_Contains (Sent id (host_no h) frame) sent.journal there)) [
         | inl before ↦ absurd (fresh (Contains-of_among (Sent id (host_no h) frame) old.journal before))
         | inr waits ↦ waits
       ]
@@ -167,9 +167,9 @@ module _ (host : HostRule) (sends : HostsSendData host) (owns : HostsSendOwn hos
       marked (inl is) = subst IsMark is befalls.0
       marked (inr never) = never
 
-  module _ (plan : Plan) (limits : Limits) (can : CanBegin plan) (before : List Moment) (old : WorldView) (run : WorldRun Loose manager_rule host (booted plan limits) before old)
-      (id h g : ℕ) (moments : List Moment) (new : WorldView) (sure : IsSure Loose manager_rule host old moments new id h g) where
-    longer : WorldRun Loose manager_rule host (booted plan limits) (before ++ sure.moment ∷ []) sure.sent
+  module _ (plan : Plan) (limits : Limits) (can : CanBegin plan) (before : List Moment) (old : WorldView) (run : WorldRun Loose whole_rule host (booted plan limits) before old)
+      (id h g : ℕ) (moments : List Moment) (new : WorldView) (sure : IsSure Loose whole_rule host old moments new id h g) where
+    longer : WorldRun Loose whole_rule host (booted plan limits) (before ++ sure.moment ∷ []) sure.sent
     longer = run_more (booted plan limits) old sure.sent before sure.moment run sure.befalls
 
     counted : IsCounted new
@@ -186,7 +186,7 @@ module _ (host : HostRule) (sends : HostsSendData host) (owns : HostsSendOwn hos
         has_come new counted id over h g at_end.0 sure.address at_end.1
 
     -- and whatever befalls the world then, that stays its one end
-    module _ (more : List Moment) (final : WorldView) (rest : WorldRun Loose manager_rule host new more final) (over : 1 ≤ ends new.journal id) where
+    module _ (more : List Moment) (final : WorldView) (rest : WorldRun Loose whole_rule host new more final) (over : 1 ≤ ends new.journal id) where
       pub has_arrived : (frame : List ℕ) × Contains final.journal (Arrived id (host_no g) frame)
       has_arrived =
           let come = arrives over in

@@ -1,3 +1,2 @@
 -- What other crates may name of these proofs.
-pub use Rattle.pl_law_arrival.proofs.Cores.{sure_first}
 pub use Rattle.pl_law_arrival.proofs.Following.{stays_written}

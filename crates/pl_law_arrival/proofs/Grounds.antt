@@ -128,6 +128,6 @@ module _ (w : WorldView) (order : IsOrderlyWorld w) (is : IsSettled w) where
     counted = kept.counted;
     hosts = kept.hosts;
     grounded = grounded w kept.counted kept.placed kept.voting kept.numbered;
-    addresses = kept.addresses;
+    own = kept.own;
     apart = order.apart;
   }

@@ -24,8 +24,8 @@ use Rattle.pl_world.specs.LinksAndMoves.{host_moved}
 use Rattle.pl_world.specs.OtherActs.{host_act_done}
 use Rattle.pl_world.specs.WorldRule.{HostTurn, ManagerTurn, SwitchTurn, WorldStep}
 use Rattle.pl_world.specs.Worlds.{WorldView}
-use Rattle.pl_world.proofs.Exports.{empties_of, failed_left, manager_acts_left, moved_left, repaired_left, switch_acts_left, SwitchesWrite, Takes, Turned, turned, Writes}
-use Rattle.pl_world.proofs.Exports.Turned.{NoTurn, OfFailed, OfHost, OfManager, OfMoved, OfRepaired, OfSwitch}
+use Rattle.pl_world.proofs.Exports.{anew_left, empties_of, failed_left, manager_acts_left, moved_left, repaired_left, switch_acts_left, SwitchesWrite, Takes, Turned, turned, Writes}
+use Rattle.pl_world.proofs.Exports.Turned.{NoTurn, OfFailed, OfHost, OfManager, OfMoved, OfRepaired, OfRestarted, OfSwitch}
 use Rattle.pl_law_arrival.proofs.LeftByAStep.{put_keeps, put_there}
 
 -- The frames that were sent since are in the queues of their hosts.
@@ -170,6 +170,7 @@ module _ (switch : SwitchRule) (manager : ManagerRule) (host : HostRule) (old ne
       (λ u links. beside u _ refl refl refl)))
   by_turn (OfRepaired a b link is found repairs) =
       before new (subst (SendsNone w) (sym repairs) (repaired_left SendsNone IsNoSend none_writes w link refl (λ u links. beside u _ refl refl refl)))
+  by_turn (OfRestarted is anew) = before new (subst (SendsNone w) (sym anew) (anew_left SendsNone IsNoSend none_writes w refl (λ u n. beside u _ refl refl refl)))
 
   pub waits_since : WorldStep switch manager host old happens new → WaitSince old.journal new
   waits_since step =

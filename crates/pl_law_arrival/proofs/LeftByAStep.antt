@@ -22,9 +22,10 @@ use Rattle.pl_world.specs.Changes.{all_noted, begun_by}
 use Rattle.pl_world.specs.OtherActs.{skip_noted}
 use Rattle.pl_world.specs.LinksAndMoves.{item_lost}
 use Rattle.pl_world.specs.SwitchActs.{DuringActs, acts_done, place_noted, with_late}
+use Rattle.pl_world.specs.Restarting.{manager_restarted}
 use Rattle.pl_world.specs.WorldRule.{ComesAtSwitch, HostReceives, HostTurn, ManagerTurn, SwitchTurn, heard_item}
 use Rattle.pl_world.specs.Worlds.{WorldView}
-use Rattle.pl_world.proofs.Exports.{acts_left, Any, any_of_switches, at_switch_left, heard_left, host_left, lost_left, manager_left, receives_left, skip_left, switch_left, Turns, Writes}
+use Rattle.pl_world.proofs.Exports.{acts_left, anew_left, Any, any_of_switches, at_switch_left, heard_left, host_left, lost_left, manager_left, receives_left, skip_left, switch_left, Turns, Writes}
 
 pub record Goes (old new : WorldView) : Type 0 where
   pub plan : new.plan ≡ old.plan
@@ -183,3 +184,7 @@ goes_heard w h item = heard_left Goes Any goes_writes (λ u heard. goes_beside u
 
 pub goes_lost : (w : WorldView) (item : Item) → Goes w (item_lost w item)
 goes_lost w item = lost_left Goes Any goes_writes w item
+
+-- and where the manager begins anew
+pub goes_anew : (w : WorldView) → Goes w (manager_restarted w)
+goes_anew w = anew_left Goes Any goes_writes w tt (λ u n. goes_beside u _ refl refl refl refl refl refl)

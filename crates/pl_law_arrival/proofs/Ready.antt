@@ -24,7 +24,7 @@ use Rattle.pl_world.proofs.Exports.{all_found}
 use Rattle.pl_law_control_plane.specs.ControlPlanes.{control_plane, no_switch}
 use Rattle.pl_law_control_plane.specs.HostsAtEdges.{HostsAtEdges, IsAtEdge}
 use Rattle.pl_law_addresses.specs.Addressed.{IsGrounded}
-use Rattle.pl_law_addresses.specs.InOrder.{AddressesAreInOrder}
+use Rattle.pl_law_addresses.specs.OwnFrames.{HostsAreOwn}
 use Rattle.pl_law_arrival.specs.Orderly.{AreApart}
 use Rattle.pl_law_addresses.specs.Registered.{IsRegisteredBy}
 use Rattle.pl_law_arrival.specs.Ways.{Alike, LeadsBy, fabric_of}
@@ -39,7 +39,7 @@ pub record Ready (w : WorldView) : Type 0 where
   pub counted : IsCounted w
   pub hosts : HostsAtEdges w
   pub grounded : IsGrounded w
-  pub addresses : AddressesAreInOrder w
+  pub own : HostsAreOwn w
   pub apart : AreApart w.attachments
 
 module _ (w : WorldView) (r : Ready w) where

@@ -25,7 +25,7 @@ use Rattle.pl_node.specs.ManagerViews.{ManagerView, newest}
 use Rattle.pl_node.specs.PortRecords.{is_usable}
 use Rattle.pl_node.specs.SwitchViews.{SwitchView}
 use Rattle.pl_node.proofs.Exports.{among_left, IsAmong}
-use Rattle.pl_manager_rule.specs.ManagerRule.{manager_rule}
+use Rattle.pl_manager_rule.specs.WholeRule.{whole_rule}
 use Rattle.pl_switch_rule.specs.SwitchRule.{Loose}
 use Rattle.pl_switch_rule.proofs.Exports.{loose_steps_are_accounted}
 use Rattle.pl_queues.specs.Queues.{items_at}
@@ -42,19 +42,19 @@ use Rattle.pl_world.specs.Refusals.{has_queue, is_filled, refusal, refusal_of_ev
 use Rattle.pl_world.specs.WorldRule.{ComesIn, ComesOver, HostTurn, WorldStep}
 use Rattle.pl_world.specs.Worlds.{WorldView}
 use Rattle.pl_world.proofs.Exports.{all_found, by_host, event_is_not_refused, found_contained, Happened, happened, live_before, place_is_free, port_within, there_is}
-use Rattle.pl_world.proofs.Exports.Happened.{Asked, Departed, Failed, FromHost, Lost, Ordered, OutOfPort, OverLink, PlayedFrame, Repaired, Reported, Ticked}
+use Rattle.pl_world.proofs.Exports.Happened.{Asked, BeganAnew, Departed, Failed, FromHost, Lost, Ordered, OutOfPort, OverLink, PlayedFrame, Repaired, Reported, Ticked}
 use Rattle.pl_law_control_plane.specs.ControlPlanes.{control_plane}
 use Rattle.pl_law_control_plane.specs.HostsAtEdges.{IsAtEdge}
-use Rattle.pl_law_control_plane.specs.PlaneSteps.{PlaneStep}
-use Rattle.pl_law_control_plane.proofs.Exports.{adjacent_there, step_in_plane}
+use Rattle.pl_law_control_plane.specs.Restarts.{OnPlane}
+use Rattle.pl_law_control_plane.proofs.Exports.{adjacent_there, step_on_plane}
 use Rattle.pl_law_arrival.specs.Losses.{IsLostBy}
 use Rattle.pl_law_arrival.specs.Reach.{Reaches}
 use Rattle.pl_law_addresses.specs.Registered.{IsRegisteredBy}
 use Rattle.pl_law_arrival.specs.Ways.{Alike, fabric_of}
-use Rattle.pl_law_arrival.proofs.Alike.{alike_by_manager, alike_by_views, one_of_both}
+use Rattle.pl_law_arrival.proofs.Alike.{alike_by_manager, alike_by_views, one_of_both_on}
 use Rattle.pl_law_arrival.proofs.Hosting.{somebody}
 use Rattle.pl_law_arrival.proofs.Ready.{Ready, at_edge, net, stays_at_edge}
-use Rattle.pl_law_arrival.proofs.LeftByAStep.{Goes, goes_beside, goes_host, goes_lost, goes_manager, goes_skip, goes_switch, goes_then}
+use Rattle.pl_law_arrival.proofs.LeftByAStep.{Goes, goes_anew, goes_beside, goes_host, goes_lost, goes_manager, goes_skip, goes_switch, goes_then}
 use Rattle.pl_law_arrival.proofs.Track.{IsOnTrack, OnTrack, split_out, still_on}
 use Rattle.pl_law_arrival.proofs.Track.OnTrack.{Came, Leaves, Under, Waits}
 use Rattle.pl_law_arrival.proofs.SureFramesOnTrack.{comes_in_goes, comes_over_goes, from_host, keep, out_of_port}
@@ -167,9 +167,9 @@ module _ (host : HostRule) (keeps : HostsKeepFrames host) (old new : WorldView) 
         by (Came frame among) = rest (Came frame (journal _ among))
 
   -- ---- all events
-  module _ (plane : PlaneStep Loose manager_rule (control_plane old) (control_plane new)) where
+  module _ (plane : OnPlane Loose whole_rule (control_plane old) (control_plane new)) where
     alike_of : new.plan ≡ old.plan → new.links ≡ old.links → Alike (fabric_of old) (fabric_of new)
-    alike_of plan links = elim (one_of_both (control_plane old) (control_plane new) plane) [
+    alike_of plan links = elim (one_of_both_on (control_plane old) (control_plane new) plane) [
       | inl manager ↦ alike_by_manager (net old) (net new) r.calm ahead.calm plan links (ap (λ (m : ManagerView). m.told) manager)
       | inr views ↦ alike_by_views (net old) (net new) r.calm ahead.calm plan views
     ]
@@ -241,7 +241,7 @@ module _ (host : HostRule) (keeps : HostsKeepFrames host) (old new : WorldView) 
           Goes mid new → Both
       beside mid plan links attachments out from_hosts journal goes = quietly mid (goes_beside old mid plan links attachments out from_hosts journal) goes
 
-      by_case : Happened Loose manager_rule host (stepped next) happens new → Both
+      by_case : Happened Loose whole_rule host (stepped next) happens new → Both
       by_case (FromHost n item items attachment is head at comes) =
           let mid : WorldView = record old { steps = next; from_hosts = set old.from_hosts n.0 items } in
           let came : ComesIn Loose mid n.0 item (slice_get old.attachments n.0) new = subst (λ (o : Option AttachmentPoint). ComesIn Loose mid n.0 item o new)
@@ -265,7 +265,7 @@ module _ (host : HostRule) (keeps : HostsKeepFrames host) (old new : WorldView) 
           }) s.0 p item peer new) (sym adjacent) comes)
       by_case (Reported s told items is head turn) =
           let mid : WorldView = record old { steps = next; to_manager = set old.to_manager s.0 items } in
-          beside mid refl refl refl refl refl refl (goes_manager manager_rule mid s.0 told new turn)
+          beside mid refl refl refl refl refl refl (goes_manager whole_rule mid s.0 told new turn)
       by_case (Ordered s says items is head turn) =
           let mid : WorldView = record old { steps = next; from_manager = set old.from_manager s.0 items } in beside mid refl refl refl refl refl refl
           (goes_switch Loose mid s.0 _ _ new turn)
@@ -282,14 +282,16 @@ module _ (host : HostRule) (keeps : HostsKeepFrames host) (old new : WorldView) 
           let mid = skip_noted (stepped next) n.0 skip in
           quietly mid (goes_then old (stepped next) mid (to_stepped next) (goes_skip (stepped next) n.0 skip)) (goes_host host mid n.0 _ _ new turn)
       by_case (Asked n input is turn) = beside (stepped next) refl refl refl refl refl refl (goes_host host (stepped next) n.0 _ _ new turn)
+      by_case (BeganAnew is anew) =
+          beside (stepped next) refl refl refl refl refl refl (subst (λ (x : WorldView). Goes (stepped next) x) (sym anew) (goes_anew (stepped next)))
 
-      pub stays : WorldStep Loose manager_rule host old happens new → Both
-      stays step = by_case (happened Loose manager_rule host (stepped next) happens new step)
+      pub stays : WorldStep Loose whole_rule host old happens new → Both
+      stays step = by_case (happened Loose whole_rule host (stepped next) happens new step)
 
   -- each step
-  pub step_keeps : (happens : Event) → refusal old happens ≡ None → (IsLostBy old happens id → ⊥) → WorldStep Loose manager_rule host old happens new →
+  pub step_keeps : (happens : Event) → refusal old happens ≡ None → (IsLostBy old happens id → ⊥) → WorldStep Loose whole_rule host old happens new →
       IsOnTrack new h g reached.to.attachment.edge.0 x id
   step_keeps happens none kept step =
-      let plane = step_in_plane Loose manager_rule host loose_steps_are_accounted old happens new r.counted r.hosts none step in
+      let plane = step_on_plane Loose whole_rule host loose_steps_are_accounted old happens new r.counted r.hosts none step in
       let both = stays plane happens (event_is_not_refused old happens none) kept step in
       subst (λ t. IsOnTrack new h g t x id) (stays_at_edge old new r ahead both.0 g x reach.to reached.to) both.1

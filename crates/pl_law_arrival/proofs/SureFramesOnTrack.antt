@@ -90,7 +90,7 @@ module _ (old : WorldView) (r : Ready old) where
   own_source h host id frame items found head =
       let within = subst (λ n. h < n) (sym r.counted.formed.hosts) (slice_get_within old.plan.hosts h host found) in
       let view = there_in old.hosts h within in
-      let own = (r.addresses.own h host view.0 found view.1).sends in
+      let own = (r.own h host view.0 found view.1).sends in
       let is = (subst (AllByRecursion (IsOwnItem (me_of host))) head own).0 in
       let same = (and_parts (same_mac (source_of frame) host.mac) (is_of (me_of host) (packet_in frame)) is).0 in
       let bytes = (bytes_eq-Decides (source_of frame).0 host.mac.0).0 same in

@@ -4,7 +4,7 @@ ghost use Rattle.pl_wiring.specs.Plan.{Plan};
 ghost use Rattle.pl_journal.specs.declared.cause.Cause.{Cause};
 ghost use Rattle.pl_journal.specs.declared.entry.Entry.TheVariants.{Arrived, Dropped, Sent, Taken};
 ghost use Rattle.pl_journal.specs.Flights.{ends};
-ghost use Rattle.pl_manager_rule.specs.ManagerRule.{manager_rule};
+ghost use Rattle.pl_manager_rule.specs.WholeRule.{whole_rule};
 ghost use Rattle.pl_switch_rule.specs.SwitchRule.{Loose};
 ghost use Rattle.pl_queues.specs.Queues.{items_at};
 ghost use Rattle.pl_world.specs.declared.event.Event.{Event};
@@ -34,7 +34,7 @@ pub fn each_run_is_orderly<S: LooseSwitch, M: LawfulManager, H: HostLogic>()
 /// Between two settled moments that one step joins no link and no place changes, whatever the step is.
 pub fn no_link_and_no_place_changes_between_settled_moments<H: HostLogic>()
     ensures { (old : WorldView) (event : Event) (new : WorldView) → IsOrderlyWorld old → IsOrderlyWorld new → IsSettled old → IsSettled new →
-        refusal old event ≡ None → WorldStep Loose manager_rule H.rule old event new → Alike (fabric_of old) (fabric_of new) }
+        refusal old event ≡ None → WorldStep Loose whole_rule H.rule old event new → Alike (fabric_of old) (fabric_of new) }
 {}
 
 /// What a step sends waits in the queue of its host then, whatever the rules of switches, manager and hosts are.
@@ -45,15 +45,16 @@ pub fn a_frame_waits_at_its_host_once_it_is_sent<S: SwitchLogic, M: ManagerLogic
 {}
 
 /// In each run of lawful logic from the beginning, whatever its wiring, its events and the choices of the
-/// switches: a sure frame that has ended has arrived at the host to which it was sent.
+/// switches: a sure frame that has ended has arrived at the host to which it was sent. The manager may have begun
+/// anew before; it did not meanwhile, since a fabric is not settled until each switch has heard of that.
 pub fn a_sure_frame_that_ends_has_arrived<S: LooseSwitch, M: LawfulManager, H: HostLogic>()
     ensures { (plan : Plan) (limits : Limits) (before moments : List Moment) (old new : WorldView) (id h g : ℕ) → CanBegin plan →
         WorldRun S.rule M.rule H.rule (booted plan limits) before old → IsSure S.rule M.rule H.rule old moments new id h g →
         1 ≤ ends new.journal id → (frame : List ℕ) × Contains new.journal (Arrived id (host_no g) frame) }
 {}
 
-/// And that stays its one end, whatever befalls the fabric then: it is dropped for no cause, no edge switch takes
-/// it, and no other host gets it.
+/// And that stays its one end, whatever befalls the fabric then, a restart of the manager too: it is dropped for no
+/// cause, no edge switch takes it, and no other host gets it.
 pub fn a_sure_frame_has_no_other_end<S: LooseSwitch, M: LawfulManager, H: HostLogic>()
     ensures dropped { (plan : Plan) (limits : Limits) (before moments more : List Moment) (old new last : WorldView) (id h g : ℕ) (cause : Cause) → CanBegin plan →
         WorldRun S.rule M.rule H.rule (booted plan limits) before old → IsSure S.rule M.rule H.rule old moments new id h g →

@@ -64,6 +64,7 @@ none_asked w (event.Play h frame original raw) who is = none_gone w (event.Play 
 none_asked w (event.Retry h) who is = none_gone w (event.Retry h) (λ r there. refl)
 none_asked w (event.Join h group) who is = none_gone w (event.Join h group) (λ r there. refl)
 none_asked w (event.Leave h group) who is = none_gone w (event.Leave h group) (λ r there. refl)
+none_asked w event.Restart who is = none_gone w event.Restart (λ r there. refl)
 
 -- the count of steps changes nothing of it
 steps_apart : (w : WorldView) (steps : ℕ) (e : Event) (r : ℕ) (there : EdgePort) → goes_out_by (record w { steps = steps }) e r there ≡ goes_out_by w e r there
@@ -81,6 +82,7 @@ steps_apart w steps (event.Play h frame original raw) r there = refl
 steps_apart w steps (event.Retry h) r there = refl
 steps_apart w steps (event.Join h group) r there = refl
 steps_apart w steps (event.Leave h group) r there = refl
+steps_apart w steps event.Restart r there = refl
 
 pub gone_stepped : (w : WorldView) (steps : ℕ) (e : Event) (r : ℕ) (there : Target) → gone_by (record w { steps = steps }) e r there ≡ gone_by w e r there
 gone_stepped w steps e r (Crossing x) = refl

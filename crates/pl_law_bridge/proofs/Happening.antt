@@ -45,8 +45,8 @@ use Rattle.pl_world.specs.OtherActs.{reception_noted, skip_noted}
 use Rattle.pl_world.specs.Refusals.{has_port, refusal_of_event}
 use Rattle.pl_world.specs.WorldRule.{ComesAtHost, ComesAtSwitch, ComesOut, Happens, HostReceives, HostTurn, SwitchTurn, Ticks, heard_item}
 use Rattle.pl_world.specs.Worlds.{WorldView}
-use Rattle.pl_world.proofs.Exports.{all_at, all_found, born_once, failed_left, Happened, happened, head_is_item, lost_left, manager_acts_left, one, Owes, port_within, repaired_left, sent_is_item, skip_left, Sound, sound, there_is, times_in-data, took_host_balance, took_out_balance}
-use Rattle.pl_world.proofs.Exports.Happened.{Asked, Departed, Failed, FromHost, Lost, Ordered, OutOfPort, OverLink, PlayedFrame, Repaired, Reported, Ticked}
+use Rattle.pl_world.proofs.Exports.{all_at, all_found, anew_left, born_once, failed_left, Happened, happened, head_is_item, lost_left, manager_acts_left, one, Owes, port_within, repaired_left, sent_is_item, skip_left, Sound, sound, there_is, times_in-data, took_host_balance, took_out_balance}
+use Rattle.pl_world.proofs.Exports.Happened.{Asked, BeganAnew, Departed, Failed, FromHost, Lost, Ordered, OutOfPort, OverLink, PlayedFrame, Repaired, Reported, Ticked}
 use Rattle.pl_bridge_rule.specs.BridgeRule.{Bridges, bridge_step, bridges, goes_on, other_ports, port_for, with_source}
 use Rattle.pl_bridge_rule.specs.Tree.{is_tree_link}
 use Rattle.pl_bridge_rule.proofs.Exports.{either_way}
@@ -388,6 +388,9 @@ module _ (unsaid : ℕ → Target → ℕ) (accounts : AccountsForFrames Bridges
     by_case (PlayedFrame h input skip is turn) =
         quietly (none_asked w happens (h.0, input) is) (host_keeps unsaid rule (skip_noted w h.0 skip) h.0 input _ new (skip_left (Keeps unsaid) IsIdle (keeps_writes unsaid) (λ g why. tt) w h.0 skip kept) turn)
     by_case (Asked h input is turn) = quietly (none_asked w happens (h.0, input) is) (host_keeps unsaid rule w h.0 _ _ new kept turn)
+    by_case (BeganAnew is anew) =
+        is_quiet event.Restart is (none_gone w event.Restart (λ r there. refl))
+        (subst (IsKeptIn unsaid) (sym anew) (anew_left (Keeps unsaid) IsIdle (keeps_writes unsaid) w tt (λ u n c. record { once = c.once; travels = c.travels }) kept))
 
     pub happens_kept : Happens Bridges manager rule w happens new → IsKeptIn by_then new
     happens_kept does = by_case (happened Bridges manager rule w happens new does)

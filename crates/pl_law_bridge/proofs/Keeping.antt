@@ -15,7 +15,7 @@ use Rattle.pl_world.specs.Runs.Moment.{Mark, Step}
 use Rattle.pl_world.specs.WorldRule.{WorldStep}
 use Rattle.pl_world.specs.Worlds.{WorldView}
 use Rattle.pl_world.proofs.Exports.{born_once, by_event_but, ByTurns, counted as to_counted, event_is_not_refused, Left, marked_counted, same_refusal, sound, step_is_counted}
-use Rattle.pl_world.proofs.Exports.Left.{LinkFails, Moves, Repairs, Stays}
+use Rattle.pl_world.proofs.Exports.Left.{LinkFails, Moves, Repairs, Restarts, Stays}
 use Rattle.pl_bridge_rule.specs.BridgeRule.{Bridges}
 use Rattle.pl_bridge_rule.proofs.Exports.{accounts}
 use Rattle.pl_journal.specs.Places.{EdgePort}
@@ -40,6 +40,7 @@ event_live w e new none (Moves h s port from is found r) live = stays_live (host
 event_live w e new none (LinkFails a b link is found fails) live =
     subst (λ (x : WorldView). LiveIsTree x.plan x.links) (sym fails) (fails_keep w.plan w.links link live)
 event_live w e new none (Repairs a b link is found repaired) live = absurd (subst IsNoRepair is none)
+event_live w e new none (Restarts is anew) live = subst (λ (x : WorldView). LiveIsTree x.plan x.links) (sym anew) live
 
 mark_is_idle : (e : Entry) → IsMark e → IsIdle e
 mark_is_idle (Line n) is = tt

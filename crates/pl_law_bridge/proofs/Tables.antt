@@ -16,7 +16,7 @@ use Rattle.pl_world.specs.Runs.{InEveryRun}
 use Rattle.pl_world.specs.WorldRule.{SwitchTurn, WorldStep}
 use Rattle.pl_world.specs.Worlds.{WorldView}
 use Rattle.pl_world.proofs.Exports.{all_found, all_set, Any, any_of_switches, by_host, by_manager, run_along, switch_acts_left, Takes, Turned, turned, Writes}
-use Rattle.pl_world.proofs.Exports.Turned.{NoTurn, OfFailed, OfHost, OfManager, OfMoved, OfRepaired, OfSwitch}
+use Rattle.pl_world.proofs.Exports.Turned.{NoTurn, OfFailed, OfHost, OfManager, OfMoved, OfRepaired, OfRestarted, OfSwitch}
 use Rattle.pl_bridge_rule.specs.BridgeRule.{AreAtOnePort, Bridges}
 use Rattle.pl_bridge_rule.proofs.Exports.{none_at_one, stays_at_one}
 
@@ -63,6 +63,7 @@ module _ (manager : ManagerRule) (host : HostRule) where
       kept w new (ap (λ (x : WorldView). x.switches) (by_host host (host_moved w h.0 from (record { edge = s; port = port })) h.0 _ _ new turn)) all
   by_turn w e new (OfFailed a b link is found fails) all = kept w new (ap (λ (x : WorldView). x.switches) fails) all
   by_turn w e new (OfRepaired a b link is found repaired) all = kept w new (ap (λ (x : WorldView). x.switches) repaired) all
+  by_turn w e new (OfRestarted is anew) all = kept w new (ap (λ (x : WorldView). x.switches) anew) all
 
   step_keeps_tables : (old : WorldView) (e : Event) (new : WorldView) → refusal old e ≡ None → WorldStep Bridges manager host old e new → HaveOnePort old → HaveOnePort new
   step_keeps_tables old e new fine step all =

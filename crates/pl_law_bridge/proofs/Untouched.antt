@@ -26,8 +26,8 @@ use Rattle.pl_world.specs.LinksAndMoves.{host_moved, item_lost, link_between, li
 use Rattle.pl_world.specs.OtherActs.{heard_after_tick, skip_noted}
 use Rattle.pl_world.specs.WorldRule.{ComesAtSwitch, ComesOut, Happens, heard_item}
 use Rattle.pl_world.specs.Worlds.{WorldView}
-use Rattle.pl_world.proofs.Exports.{all_at, born_once, Happened, happened, head_is_item, lost_left, moved_left, out_left, repaired_left, sent_is_item, skip_left, Sound, sound, took_host_balance, took_out_balance}
-use Rattle.pl_world.proofs.Exports.Happened.{Asked, Departed, Failed, FromHost, Lost, Ordered, OutOfPort, OverLink, PlayedFrame, Repaired, Reported, Ticked}
+use Rattle.pl_world.proofs.Exports.{all_at, anew_left, born_once, Happened, happened, head_is_item, lost_left, moved_left, out_left, repaired_left, sent_is_item, skip_left, Sound, sound, took_host_balance, took_out_balance}
+use Rattle.pl_world.proofs.Exports.Happened.{Asked, BeganAnew, Departed, Failed, FromHost, Lost, Ordered, OutOfPort, OverLink, PlayedFrame, Repaired, Reported, Ticked}
 use Rattle.pl_node.proofs.Exports.{IsAmong}
 use Rattle.pl_node.specs.declared.acts.Act.{Act}
 use Rattle.pl_bridge_rule.specs.BridgeRule.{Bridges, port_for, with_source}
@@ -292,6 +292,8 @@ module _ (x : Whereabouts) (id : ℕ) (frame : List ℕ) where
         Spared (on w (skip_noted w h.0 skip) new (skip_left Spare (IsAside x id frame) (spares_writes x id frame) (λ g why. tt) w h.0 skip)
         (host_spares x id frame host (skip_noted w h.0 skip) h.0 input _ new turn))
     by_case e alone (Asked h input is turn) = Spared (host_spares x id frame host w h.0 _ _ new turn)
+    by_case e alone (BeganAnew is anew) =
+        Spared (subst (Spare w) (sym anew) (anew_left Spare (IsAside x id frame) (spares_writes x id frame) w tt (λ u n. spares_beside x id frame u _ refl refl refl refl)))
 
     pub befell : (e : Event) → IsLeftAlone x id w e → Happens Bridges manager host w e new → One e
     befell e alone does = by_case e alone (happened Bridges manager host w e new does)

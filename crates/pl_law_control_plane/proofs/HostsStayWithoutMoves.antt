@@ -16,10 +16,12 @@ use Rattle.pl_law_control_plane.specs.ControlPlanes.{ControlPlane}
 use Rattle.pl_law_control_plane.specs.HostsAtEdges.{HostsAtEdges, IsAtEdge}
 use Rattle.pl_law_control_plane.specs.PlaneSteps.{PlaneStep}
 use Rattle.pl_law_control_plane.specs.PlaneSteps.PlaneStep.{Carried, Entered, Heard, Left, Managed, Ordered, Ticked}
+use Rattle.pl_law_control_plane.specs.Restarts.{OnPlane}
+use Rattle.pl_law_control_plane.specs.Restarts.OnPlane.{BeginsAnew, Steps}
 use Rattle.pl_law_control_plane.proofs.HostsAtEdgePorts.{moves_to_edge}
 
 -- the wiring stays
-pub plan_stays : (switch : SwitchRule) (manager : ManagerRule) (f g : ControlPlane) → PlaneStep switch manager f g → g.plan ≡ f.plan
+plan_stays : (switch : SwitchRule) (manager : ManagerRule) (f g : ControlPlane) → PlaneStep switch manager f g → g.plan ≡ f.plan
 plan_stays switch manager f g (Left left) = left.plan
 plan_stays switch manager f g (Ticked s turns) = turns.acted.plan
 plan_stays switch manager f g (Heard t q s port frame mid adjacent control taken turns) = turns.acted.plan ∙ taken.left.plan
@@ -27,6 +29,10 @@ plan_stays switch manager f g (Carried t q s port frame mid adjacent kind carrie
 plan_stays switch manager f g (Entered s port frame edge within free kind turns) = turns.acted.plan
 plan_stays switch manager f g (Ordered s says mid taken turns) = turns.acted.plan ∙ taken.left.plan
 plan_stays switch manager f g (Managed s id told mid there named taken turns) = turns.plan ∙ taken.left.plan
+
+pub plan_same : (switch : SwitchRule) (manager : ManagerRule) (f g : ControlPlane) → OnPlane switch manager f g → g.plan ≡ f.plan
+plan_same switch manager f g (Steps step) = plan_stays switch manager f g step.0
+plan_same switch manager f g (BeginsAnew anew) = anew.alike.plan
 
 -- so do the places of hosts, but for a move
 module _ (switch : SwitchRule) (manager : ManagerRule) (host : HostRule) where

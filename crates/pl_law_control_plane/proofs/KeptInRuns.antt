@@ -21,8 +21,8 @@ use Rattle.pl_world.proofs.Exports.{booted_is_counted, marked_counted, step_is_c
 use Rattle.pl_law_control_plane.specs.ControlPlanes.{control_plane}
 use Rattle.pl_law_control_plane.specs.HostsAtEdges.{HostsAtEdges}
 use Rattle.pl_law_control_plane.proofs.HostsAtEdgePorts.{hosts_at_first}
-use Rattle.pl_law_control_plane.proofs.HostsStayWithoutMoves.{plan_stays, step_attachments}
-use Rattle.pl_law_control_plane.proofs.StepsOfPlane.{step_in_plane}
+use Rattle.pl_law_control_plane.proofs.HostsStayWithoutMoves.{plan_same, step_attachments}
+use Rattle.pl_law_control_plane.proofs.StepsOfPlane.{step_on_plane}
 
 module _ (switch : SwitchRule) (manager : ManagerRule) (host : HostRule) (accounts : AccountsForFrames switch) (sends : HostsSendData host) where
   pub kept_in_run : (Holds : WorldView → Type 0) →
@@ -41,7 +41,7 @@ module _ (switch : SwitchRule) (manager : ManagerRule) (host : HostRule) (accoun
       WorldStep switch manager host old event new → HostsAtEdges new
   step_keeps_hosts old event new counted hosts none step =
       step_attachments switch manager host old event new counted
-      (plan_stays switch manager (control_plane old) (control_plane new) (step_in_plane switch manager host accounts old event new counted hosts none step)) hosts none step
+      (plan_same switch manager (control_plane old) (control_plane new) (step_on_plane switch manager host accounts old event new counted hosts none step)) hosts none step
 
   pub run_keeps_hosts : (plan : Plan) (limits : Limits) (moments : List Moment) (new : WorldView) → CanBegin plan →
       WorldRun switch manager host (booted plan limits) moments new → HostsAtEdges new

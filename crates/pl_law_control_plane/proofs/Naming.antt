@@ -20,9 +20,11 @@ use Rattle.pl_law_control_plane.specs.HostsAtEdges.{HostsAtEdges}
 use Rattle.pl_law_control_plane.specs.Ids.{HasIds}
 use Rattle.pl_law_control_plane.specs.PlaneSteps.{IsLeft, PlaneStep, SwitchTurns}
 use Rattle.pl_law_control_plane.specs.PlaneSteps.PlaneStep.{Carried, Entered, Heard, Left, Managed, Ordered, Ticked}
+use Rattle.pl_law_control_plane.specs.Restarts.{OnPlane}
+use Rattle.pl_law_control_plane.specs.Restarts.OnPlane.{BeginsAnew, Steps}
 use Rattle.pl_law_control_plane.proofs.KeptInRuns.{kept_in_run, step_keeps_hosts}
 use Rattle.pl_law_control_plane.proofs.HostsAtEdgePorts.{hosts_at_first}
-use Rattle.pl_law_control_plane.proofs.StepsOfPlane.{step_in_plane}
+use Rattle.pl_law_control_plane.proofs.StepsOfPlane.{step_on_plane}
 
 ids_left : (f g : ControlPlane) → IsLeft f g → HasIds f → HasIds g
 ids_left f g left ids = λ s id named. ap (λ v. v.id) (left.view s) ∙ ids s id (ap (λ plan. slice_get plan.ids s) (sym left.plan) ∙ named)
@@ -45,6 +47,11 @@ ids_kept switch manager f g (Ordered s says mid taken turns) ids = ids_turned sw
 ids_kept switch manager f g (Managed s x told mid there named taken turns) ids = λ t id known.
     ap (λ v. v.id) (turns.view t) ∙ ids_left f mid taken.left ids t id (ap (λ plan. slice_get plan.ids t) (sym turns.plan) ∙ known)
 
+ids_on : (switch : SwitchRule) (manager : ManagerRule) (f g : ControlPlane) → OnPlane switch manager f g → HasIds f → HasIds g
+ids_on switch manager f g (Steps step) ids = ids_kept switch manager f g step.0 ids
+ids_on switch manager f g (BeginsAnew anew) ids = λ s id named.
+    ap (λ v. v.id) (anew.alike.view s) ∙ ids s id (ap (λ plan. slice_get plan.ids s) (sym anew.alike.plan) ∙ named)
+
 booted_ids : (ids : List SwitchId) (k s : ℕ) (id : SwitchId) → slice_get ids s ≡ Some id → (get_or (map (λ x. switch_at_boot x k) ids) s no_switch).id ≡ id
 booted_ids [] k s id e = absurd (cc)
 booted_ids (x ∷ ids) k zero id e = same_Some x id e
@@ -60,7 +67,7 @@ ids_in_runs switch manager host accounts sends plan limits moments new can run =
     (kept_in_run switch manager host accounts sends Both
     (λ old event next counted both none step. record {
       hosts = step_keeps_hosts switch manager host accounts sends old event next counted both.hosts none step;
-      ids = ids_kept switch manager (control_plane old) (control_plane next) (step_in_plane switch manager host accounts old event next counted both.hosts none step) both.ids;
+      ids = ids_on switch manager (control_plane old) (control_plane next) (step_on_plane switch manager host accounts old event next counted both.hosts none step) both.ids;
     })
     (λ w entry both. record { hosts = both.hosts; ids = both.ids })
     (booted plan limits) moments new (booted_is_counted plan limits can)

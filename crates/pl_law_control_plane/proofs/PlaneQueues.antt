@@ -1,5 +1,5 @@
 -- What a write at one queue does to what is said and carried.
-use Rattle.std.proofs.Common.{◌≡◌, ℕ, ◌*◌, ◌<◌, ◌||◌, Bool, true, false, List, [], ◌∷◌, ◌++◌, length, get_or, set, refl, sym, ap, ◌∙◌, append_assoc, get_or-set_same, get_or-set_other, ◌+◌, map, suc, zero, if◌then◌else◌, nat_lt, replicate}
+use Rattle.std.proofs.Common.{◌≡◌, ℕ, ◌*◌, ◌<◌, ◌||◌, Bool, true, false, List, [], ◌∷◌, ◌++◌, length, get_or, set, refl, sym, ap, ◌∙◌, append_assoc, get_or-set_same, get_or-set_other, map, suc, zero, if◌then◌else◌, nat_lt, replicate}
 use Rattle.std.specs.List.{flat_map, list_any, AllByRecursion}
 use Rattle.pl_lemmas.proofs.Exports.{replicated}
 use Rattle.pl_frame.specs.declared.address.SwitchId.{SwitchId}

@@ -1,6 +1,6 @@
 -- Parts of a switch's step that discovery does not see: what it looks at stays, no control frame is sent, and frames leave by usable ports or to
 -- hosts.
-use Rattle.std.proofs.Common.{◌≡◌, ℕ, zero, suc, ◌+◌, ◌==◌, ◌||◌, ◌⊎◌, Bool, true, false, if◌then◌else◌, List, [], ◌∷◌, ◌++◌, Option, Some, None, get_or, set, slice_set, refl, ◌∙◌, subst, inl, inr, ◌-◌, get_or-set_other}
+use Rattle.std.proofs.Common.{◌≡◌, ℕ, zero, suc, ◌==◌, ◌||◌, ◌⊎◌, Bool, true, false, if◌then◌else◌, List, [], ◌∷◌, ◌++◌, Option, Some, None, get_or, set, slice_set, refl, ◌∙◌, subst, inl, inr, ◌-◌, get_or-set_other}
 use Rattle.std.specs.List.{AllByRecursion}
 use Rattle.std.proofs.lemmas.Bool.{cases_eq, eqb-true}
 use Rattle.pl_lemmas.proofs.Exports.{all_append}

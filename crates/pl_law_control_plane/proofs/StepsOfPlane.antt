@@ -1,9 +1,10 @@
 -- What each event of the world is to the control plane.
-use Rattle.std.proofs.Common.{◌≡◌, ℕ, ◌+◌, ◌*◌, ◌<◌, not, false, List, [], ◌∷◌, length, Option, Some, None, set, slice_get, refl, sym, ap, ◌∙◌, subst, arith, append-nil}
+use Rattle.std.proofs.Common.{◌≡◌, ℕ, zero, suc, ◌+◌, ◌*◌, ◌<◌, not, false, List, [], ◌∷◌, length, Option, Some, None, get_or, replicate, set, slice_get, refl, sym, ap, ◌∙◌, subst, arith, append-nil}
 use Rattle.std.specs.List.{AllByRecursion}
 use Rattle.std.proofs.Math.ListN.{length-set}
 use Rattle.std.proofs.lemmas.Bool.{and_parts}
 use Rattle.std.proofs.lemmas.Option.{slice_get_within}
+use Rattle.pl_lemmas.proofs.Exports.{replicated_empty}
 use Rattle.pl_wiring.specs.declared.label.SwitchNo.{SwitchNo}
 use Rattle.pl_wiring.specs.declared.link.Link.{Link}
 use Rattle.pl_wiring.specs.declared.link.Peer.TheVariants.{Switch}
@@ -34,15 +35,18 @@ use Rattle.pl_world.specs.Flying.{IsCounted, IsDataItem, IsItem}
 use Rattle.pl_world.specs.LinksAndMoves.{host_moved, item_lost, joins, link_between, link_failed}
 use Rattle.pl_world.specs.OtherActs.{heard_after_tick, skip_noted}
 use Rattle.pl_world.specs.Refusals.{is_linked, has_port, has_queue, is_filled, refusal, refusal_of_event}
+use Rattle.pl_world.specs.Restarting.{manager_restarted}
 use Rattle.pl_world.specs.WorldRule.{ComesAtSwitch, WorldStep, heard_item}
 use Rattle.pl_world.specs.Worlds.{WorldView}
 use Rattle.pl_world.proofs.Exports.{all_at, all_found, by_host, event_is_not_refused, found_contained, Happened, happened, head_is_item, out_by_hosts, peer_is_port, port_exists, same_refusal, there_is}
-use Rattle.pl_world.proofs.Exports.Happened.{Asked, Departed, Failed, FromHost, Lost, Ordered as WasOrdered, OutOfPort, OverLink, PlayedFrame, Repaired, Reported, Ticked as HasTicked}
+use Rattle.pl_world.proofs.Exports.Happened.{Asked, BeganAnew, Departed, Failed, FromHost, Lost, Ordered as WasOrdered, OutOfPort, OverLink, PlayedFrame, Repaired, Reported, Ticked as HasTicked}
 use Rattle.pl_law_control_plane.specs.ControlPlanes.{ControlPlane, control_plane}
 use Rattle.pl_law_control_plane.specs.HostsAtEdges.{HostsAtEdges, IsAtEdge}
 use Rattle.pl_law_control_plane.specs.Incoming.{ComeInSo}
-use Rattle.pl_law_control_plane.specs.PlaneSteps.{ComeSo, IsLeft, PlaneStep, SwitchTurns, WholeStep}
+use Rattle.pl_law_control_plane.specs.PlaneSteps.{ComeSo, IsLeft, SwitchTurns, WholeStep}
 use Rattle.pl_law_control_plane.specs.PlaneSteps.PlaneStep.{Carried, Entered, Heard, Left, Managed, Ordered, Ticked}
+use Rattle.pl_law_control_plane.specs.Restarts.{ComeSoOn, OnPlane, RestartsWith}
+use Rattle.pl_law_control_plane.specs.Restarts.OnPlane.{BeginsAnew, Steps}
 use Rattle.pl_law_control_plane.proofs.Managing.{manager_turns}
 use Rattle.pl_law_control_plane.proofs.Taking.{cut_out, data_first, item_taken, left_then, nothing_left, order_taken, report_taken}
 use Rattle.pl_law_control_plane.proofs.TurnsInControlPlane.{IsSolid, solid, switch_turns}
@@ -95,6 +99,38 @@ moved_left : (w : WorldView) (h : ℕ) (to from : AttachmentPoint) → slice_get
 moved_left w h to from found r =
     let there : IsAtEdge w.plan from = all_found (IsAtEdge w.plan) w.attachments h from found r.attachments in
     emptied w from.edge.0 from.port (let e = there.edge in omega arith) there.port r.solid.queues
+
+-- the manager begins anew
+began_anew : (w new : WorldView) → new ≡ manager_restarted w → RestartsWith w.manager.k (control_plane w) (control_plane new)
+began_anew w new anew = subst (λ (x : WorldView). RestartsWith w.manager.k (control_plane w) (control_plane x)) (sym anew) (record {
+  alike = record { plan = refl; view = λ s. refl; says = λ s port. refl; carries = λ s port is. is };
+  reports = λ s. replicated_empty (switch_count w.plan.k) s;
+  orders = λ s there. there_is_one (switch_count w.plan.k) s there;
+  beyond = λ s beyond. none_beyond _ (switch_count w.plan.k) s beyond;
+  manager = refl;
+})
+  where
+    there_is_one : {T : Type 0} {items : List T} (n s : ℕ) → s < n → get_or (replicate n items) s [] ≡ items
+    there_is_one zero s there = absurd (omega (arith, there))
+    there_is_one (suc n) zero there = refl
+    there_is_one (suc n) (suc s) there = there_is_one n s (omega (arith, there))
+
+    none_beyond : {T : Type 0} (items : List T) (n s : ℕ) → (s < n → ⊥) → get_or (replicate n items) s [] ≡ []
+    none_beyond items zero s beyond = refl
+    none_beyond items (suc n) zero beyond = absurd (beyond (omega arith))
+    none_beyond items (suc n) (suc s) beyond = none_beyond items n s (λ there. beyond (omega (arith, there)))
+
+-- before a step all of it is there
+ready : (old : WorldView) → IsCounted old → HostsAtEdges old → IsReady (record old { steps = old.steps + 1 })
+ready old is attachments =
+    let s = solid old is in
+    record {
+      solid = record { is_plan = s.is_plan; many = s.many; queues = s.queues; told = s.told; sizes = s.sizes; shaped = s.shaped };
+      orders = is.formed.from_manager ∙ sym is.formed.plan.ids_many;
+      host_items = is.in_host_queues;
+      port_items = is.in_port_queues;
+      attachments = attachments;
+    }
 
 module _ (switch : SwitchRule) (manager : ManagerRule) (host : HostRule) (accounts : AccountsForFrames switch) where
   comes_from_host : (w mid : WorldView) (attachment : AttachmentPoint) (item : Item) (new : WorldView) → IsReady w → control_plane mid ≡ control_plane w →
@@ -170,75 +206,65 @@ module _ (switch : SwitchRule) (manager : ManagerRule) (host : HostRule) (accoun
   )
 
   by_case : (w : WorldView) (happens : Event) (new : WorldView) → refusal_of_event w happens ≡ None → IsReady w → Happened switch manager host w happens new →
-      WholeStep switch manager (control_plane w) (control_plane new)
+      OnPlane switch manager (control_plane w) (control_plane new)
   by_case w happens new none r (FromHost h item items attachment is head at comes) =
       let all : AllByRecursion IsDataItem (item ∷ items) = subst (AllByRecursion IsDataItem) head
       (all_at (AllByRecursion IsDataItem) w.from_hosts h.0 [] tt r.host_items) in
-      from_host w h.0 item items attachment new r at all.0 comes
+      Steps (from_host w h.0 item items attachment new r at all.0 comes)
   by_case w happens new none r (OverLink s p item items t q is head adjacent comes) =
       let free = subst (λ e. refusal_of_event w e ≡ None) is none in
       let at = port_exists w.plan s.0 p (there_is (has_queue w.plan (queue.Port s p)) (is_filled w (queue.Port s p)) free) in
-      over_link w s.0 p q item items t new adjacent at.0 at.1 head r (head_is_item w.out (port_index w.plan.k s.0 p) item items head r.port_items) comes
+      Steps (over_link w s.0 p q item items t new adjacent at.0 at.1 head r (head_is_item w.out (port_index w.plan.k s.0 p) item items head r.port_items) comes)
   by_case w happens new none r (OutOfPort s p item items is head adjacent comes) =
       let free = subst (λ e. refusal_of_event w e ≡ None) is none in
       let at = port_exists w.plan s.0 p (there_is (has_queue w.plan (queue.Port s p)) (is_filled w (queue.Port s p)) free) in
       let mid : WorldView = record w { out = set w.out (port_index w.plan.k s.0 p) items } in
-      frames_left w mid (control_plane new) (cut_out w s.0 p at.0 at.1 r.solid.queues (item ∷ []) items head) refl refl
-      (ap control_plane (out_by_hosts host mid s.0 p item new comes))
+      Steps (frames_left w mid (control_plane new) (cut_out w s.0 p at.0 at.1 r.solid.queues (item ∷ []) items head) refl refl
+      (ap control_plane (out_by_hosts host mid s.0 p item new comes)))
   by_case w happens new none r (Reported s told items is head turn) =
       let mid : WorldView = record w { to_manager = set w.to_manager s.0 items } in
       let many = r.solid.is_plan.ids_many in
-      let there : s.0 < length w.plan.ids = slice_get_within w.plan.ids s.0 turn.id turn.found in (
+      let there : s.0 < length w.plan.ids = slice_get_within w.plan.ids s.0 turn.id turn.found in Steps (
         Managed s.0 turn.id told (control_plane mid) (omega arith) turn.found (report_taken w s.0 told items head)
             (manager_turns manager mid s.0 told new r.orders turn),
         tt,
       )
   by_case w happens new none r (WasOrdered s says items is head turn) =
-      let mid : WorldView = record w { from_manager = set w.from_manager s.0 items } in (
+      let mid : WorldView = record w { from_manager = set w.from_manager s.0 items } in Steps (
         Ordered s.0 says (control_plane mid) (order_taken w s.0 says items head)
             (switch_turns switch accounts mid s.0 (Says says) Silent new r.solid (λ v size. tt) turn),
         tt,
       )
   by_case w happens new none r (HasTicked s is turn) =
-      (Ticked s.0 (switch_turns switch accounts (record w { heard = heard_after_tick s.0 w.attachments w.heard }) s.0 Tick Silent new r.solid (λ v size. tt) turn), tt)
+      Steps (Ticked s.0 (switch_turns switch accounts (record w { heard = heard_after_tick s.0 w.attachments w.heard }) s.0 Tick Silent new r.solid (λ v size. tt) turn), tt)
   by_case w happens new none r (Failed a b link is found fails) =
-      frames_left w (link_failed w link) (control_plane new) (failed_left w a.0 b.0 link found r) refl refl (ap control_plane fails)
+      Steps (frames_left w (link_failed w link) (control_plane new) (failed_left w a.0 b.0 link found r) refl refl (ap control_plane fails))
   by_case w happens new none r (Repaired a b link is found repairs) =
-      frames_left w w (control_plane new) (nothing_left (control_plane w)) refl refl (ap control_plane repairs)
+      Steps (frames_left w w (control_plane new) (nothing_left (control_plane w)) refl refl (ap control_plane repairs))
   by_case w happens new none r (Lost s p item items is head loses) =
       let free = subst (λ e. refusal_of_event w e ≡ None) is none in
       let linked = there_is (is_linked w.plan s.0 p) (has_items (out_of w s.0 p)) free in
       let at = port_exists w.plan s.0 p (and_parts (has_port w.plan s.0 p) (not (is_host_port (peer_of w.plan s.0 p))) linked).0 in
       let mid : WorldView = record w { out = set w.out (port_index w.plan.k s.0 p) items } in
-      frames_left w mid (control_plane new) (cut_out w s.0 p at.0 at.1 r.solid.queues (item ∷ []) items head) refl refl
-      (ap control_plane loses ∙ lost_same mid item)
+      Steps (frames_left w mid (control_plane new) (cut_out w s.0 p at.0 at.1 r.solid.queues (item ∷ []) items head) refl refl
+      (ap control_plane loses ∙ lost_same mid item))
   by_case w happens new none r (Departed h s p from is at turn) =
       let to : AttachmentPoint = record { edge = s; port = p } in
-      frames_left w (host_moved w h.0 from to) (control_plane new) (moved_left w h.0 to from at r) refl refl
-      (ap control_plane (by_host host (host_moved w h.0 from to) h.0 _ _ new turn))
+      Steps (frames_left w (host_moved w h.0 from to) (control_plane new) (moved_left w h.0 to from at r) refl refl
+      (ap control_plane (by_host host (host_moved w h.0 from to) h.0 _ _ new turn)))
   by_case w happens new none r (PlayedFrame h input skip is turn) =
-      frames_left w w (control_plane new) (nothing_left (control_plane w)) refl refl
-      (ap control_plane (by_host host (skip_noted w h.0 skip) h.0 _ _ new turn) ∙ skip_same w h.0 skip)
+      Steps (frames_left w w (control_plane new) (nothing_left (control_plane w)) refl refl
+      (ap control_plane (by_host host (skip_noted w h.0 skip) h.0 _ _ new turn) ∙ skip_same w h.0 skip))
   by_case w happens new none r (Asked h input is turn) =
-      frames_left w w (control_plane new) (nothing_left (control_plane w)) refl refl (ap control_plane (by_host host w h.0 _ _ new turn))
+      Steps (frames_left w w (control_plane new) (nothing_left (control_plane w)) refl refl (ap control_plane (by_host host w h.0 _ _ new turn)))
+  by_case w happens new none r (BeganAnew is anew) = BeginsAnew (began_anew w new anew)
 
-  -- a step of the world is one of its control plane, in which no word is lost
-  pub whole_step : (old : WorldView) (happens : Event) (new : WorldView) → IsCounted old → HostsAtEdges old → refusal old happens ≡ None →
-      WorldStep switch manager host old happens new → WholeStep switch manager (control_plane old) (control_plane new)
-  whole_step old happens new is attachments none step =
-      let s = solid old is in
+  -- a step of the world is one of its control plane, in which no word is lost, or its manager begins anew
+  pub step_on_plane : (old : WorldView) (happens : Event) (new : WorldView) → IsCounted old → HostsAtEdges old → refusal old happens ≡ None →
+      WorldStep switch manager host old happens new → OnPlane switch manager (control_plane old) (control_plane new)
+  step_on_plane old happens new is attachments none step =
       by_case (record old { steps = old.steps + 1 }) happens new (same_refusal old happens ∙ event_is_not_refused old happens none)
-      (record {
-        solid = record { is_plan = s.is_plan; many = s.many; queues = s.queues; told = s.told; sizes = s.sizes; shaped = s.shaped };
-        orders = is.formed.from_manager ∙ sym is.formed.plan.ids_many;
-        host_items = is.in_host_queues;
-        port_items = is.in_port_queues;
-        attachments = attachments;
-      }) (happened switch manager host (record old { steps = old.steps + 1 }) happens new step)
-
-  pub step_in_plane : (old : WorldView) (happens : Event) (new : WorldView) → IsCounted old → HostsAtEdges old → refusal old happens ≡ None →
-      WorldStep switch manager host old happens new → PlaneStep switch manager (control_plane old) (control_plane new)
-  step_in_plane old happens new is attachments none step = (whole_step old happens new is attachments none step).0
+      (ready old is attachments) (happened switch manager host (record old { steps = old.steps + 1 }) happens new step)
 
   -- ---- how data frames come in
   module _ (entered linked : SwitchView → ℕ → List ℕ → Type 0) where
@@ -264,7 +290,7 @@ module _ (switch : SwitchRule) (manager : ManagerRule) (host : HostRule) (accoun
     over_link_so w s p q (Data id frame) items to new adjacent there within found r is comes so = so id frame refl
 
     by_case_so : (w : WorldView) (happens : Event) (new : WorldView) (none : refusal_of_event w happens ≡ None) (r : IsReady w) (it : Happened switch manager host w happens new) →
-        ComeInSo entered linked w → So (control_plane w) (control_plane new) (by_case w happens new none r it)
+        ComeInSo entered linked w → ComeSoOn entered linked switch manager (control_plane w) (control_plane new) (by_case w happens new none r it)
     unfolding by_case from_host frames_left
     by_case_so w happens new none r (FromHost h item items attachment is head at comes) so =
         let all : AllByRecursion IsDataItem (item ∷ items) = subst (AllByRecursion IsDataItem) head
@@ -285,18 +311,12 @@ module _ (switch : SwitchRule) (manager : ManagerRule) (host : HostRule) (accoun
     by_case_so w happens new none r (Departed h s p from is at turn) so = tt
     by_case_so w happens new none r (PlayedFrame h input skip is turn) so = tt
     by_case_so w happens new none r (Asked h input is turn) so = tt
+    by_case_so w happens new none r (BeganAnew is anew) so = tt
 
     pub frames_come_so : (old : WorldView) (happens : Event) (new : WorldView) (is : IsCounted old) (attachments : HostsAtEdges old) (none : refusal old happens ≡ None)
         (step : WorldStep switch manager host old happens new) → ComeInSo entered linked old →
-        ComeSo entered linked switch manager (control_plane old) (control_plane new) (whole_step old happens new is attachments none step).0
-    unfolding whole_step by_case
+        ComeSoOn entered linked switch manager (control_plane old) (control_plane new) (step_on_plane old happens new is attachments none step)
+    unfolding step_on_plane by_case
     frames_come_so old happens new is attachments none step so =
-        let s = solid old is in
         by_case_so (record old { steps = old.steps + 1 }) happens new (same_refusal old happens ∙ event_is_not_refused old happens none)
-        (record {
-          solid = record { is_plan = s.is_plan; many = s.many; queues = s.queues; told = s.told; sizes = s.sizes; shaped = s.shaped };
-          orders = is.formed.from_manager ∙ sym is.formed.plan.ids_many;
-          host_items = is.in_host_queues;
-          port_items = is.in_port_queues;
-          attachments = attachments;
-        }) (happened switch manager host (record old { steps = old.steps + 1 }) happens new step) (record { hosts = so.hosts; links = so.links })
+        (ready old is attachments) (happened switch manager host (record old { steps = old.steps + 1 }) happens new step) (record { hosts = so.hosts; links = so.links })

@@ -12,7 +12,7 @@ ghost use Rattle.pl_world.specs.Worlds.{WorldView};
 ghost use Rattle.pl_law_control_plane.specs.ControlPlanes.{control_plane, message_in};
 ghost use Rattle.pl_law_control_plane.specs.HostsAtEdges.{HostsAtEdges};
 ghost use Rattle.pl_law_control_plane.specs.Ids.{HasIds};
-ghost use Rattle.pl_law_control_plane.specs.PlaneSteps.{PlaneStep};
+ghost use Rattle.pl_law_control_plane.specs.Restarts.{OnPlane};
 
 use pl_node::{HostLogic, ManagerLogic};
 
@@ -21,11 +21,12 @@ pub fn a_written_message_is_read()
     ensures { (message : Control) → IsWritableControl message → message_in (control_frame message) ≡ Ok message }
 {}
 
-/// Each step of a world is one of its control plane: items leave queues, or one switch or the manager
-/// steps by its rule, and what it sends is put behind the queues.
+/// Each step of a world is one of its control plane: items leave queues of frames, or one switch or the manager
+/// steps by its rule, and what it sends is put behind the queues; or the manager begins anew, and then all that
+/// waited between it and the switches is gone.
 pub fn each_step_is_one_of_the_control_plane<M: ManagerLogic, H: HostLogic>()
     ensures { (old : WorldView) (event : Event) (new : WorldView) → IsCounted old → HostsAtEdges old → refusal old event ≡ None →
-        WorldStep Loose M.rule H.rule old event new → PlaneStep Loose M.rule (control_plane old) (control_plane new) }
+        WorldStep Loose M.rule H.rule old event new → OnPlane Loose M.rule (control_plane old) (control_plane new) }
 {}
 
 /// Hosts stand at ports of edge switches that have no link, after each step.

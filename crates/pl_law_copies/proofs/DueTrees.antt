@@ -15,7 +15,8 @@ use Rattle.pl_manager_rule.specs.Treating.{waits_for_places}
 use Rattle.pl_switch_rule.specs.SwitchRule.{Loose}
 use Rattle.pl_law_control_plane.specs.ControlPlanes.{ControlPlane}
 use Rattle.pl_law_due.specs.Due.{is_silent, words_of}
-use Rattle.pl_law_due.specs.DueSteps.{DueStep, IsAlike, IsSifted, IsTurned, ManagerPart, Restarts}
+use Rattle.pl_law_control_plane.specs.Restarts.{IsAlike, Restarts}
+use Rattle.pl_law_due.specs.DueSteps.{DueStep, IsSifted, IsTurned, ManagerPart}
 use Rattle.pl_law_due.specs.DueSteps.DueStep.{Managed as ManagedBy, Stepped}
 use Rattle.pl_law_due.specs.DueSteps.ManagerPart.{Released, Treated, Turned}
 use Rattle.pl_law_due.proofs.Exports.{part_alike, releases_learn, through_parts}

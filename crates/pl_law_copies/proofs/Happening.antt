@@ -48,8 +48,8 @@ use Rattle.pl_world.specs.OtherActs.{reception_noted, skip_noted}
 use Rattle.pl_world.specs.Refusals.{has_port, refusal_of_event}
 use Rattle.pl_world.specs.WorldRule.{ComesAtHost, ComesAtSwitch, ComesOut, Happens, HostReceives, HostTurn, SwitchTurn, Ticks, heard_item}
 use Rattle.pl_world.specs.Worlds.{WorldView}
-use Rattle.pl_world.proofs.Exports.{all_at, all_found, failed_left, Happened, happened, head_is_item, lost_left, manager_acts_left, peer_is_port, port_within, repaired_left, sent_is_item, skip_left, Sound, sound, there_is}
-use Rattle.pl_world.proofs.Exports.Happened.{Asked, Departed, Failed, FromHost, Lost, Ordered, OutOfPort, OverLink, PlayedFrame, Repaired, Reported, Ticked}
+use Rattle.pl_world.proofs.Exports.{all_at, all_found, anew_left, failed_left, Happened, happened, head_is_item, lost_left, manager_acts_left, peer_is_port, port_within, repaired_left, sent_is_item, skip_left, Sound, sound, there_is}
+use Rattle.pl_world.proofs.Exports.Happened.{Asked, BeganAnew, Departed, Failed, FromHost, Lost, Ordered, OutOfPort, OverLink, PlayedFrame, Repaired, Reported, Ticked}
 use Rattle.pl_law_counts.specs.Counting.{OnceIn}
 use Rattle.pl_law_counts.proofs.Exports.{claim, control_keeps, empty_host, empty_out, frame_keeps, host_frame_keeps, move_keeps, move_one, note, of_root, of_root_less, once_noted, OnceAmid, order_keeps, peer_back, receiver_stands, take_any, take_host, take_out, taken_out, tick_keeps, used, weaker}
 use Rattle.pl_law_copies.specs.Copies.{came_to, ComesOnce, may_come, may_come_by, to_ports}
@@ -243,6 +243,7 @@ module _ (accounts : AccountsForFrames Loose) (w : WorldView) (counted : IsCount
     by_case (PlayedFrame h input skip is turn) =
         host_comes rule (skip_noted w h.0 skip) h.0 input _ new (skip_left Keeps IsNoCopyEntry keeps_writes (λ g why. tt) w h.0 skip come) turn
     by_case (Asked h input is turn) = host_comes rule w h.0 _ _ new come turn
+    by_case (BeganAnew is anew) = subst ComesOnce (sym anew) (anew_left Keeps IsNoCopyEntry keeps_writes w tt (λ u n c. c) come)
 
     pub happens_once : Happens Loose manager rule w happens new → ComesOnce new
     happens_once does = by_case (happened Loose manager rule w happens new does)

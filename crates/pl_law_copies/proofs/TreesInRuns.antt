@@ -1,5 +1,5 @@
 -- In every run parts of trees lead down, and so at each port at most one frame of each root comes.
-use Rattle.std.proofs.Common.{◌≡◌, ℕ, zero, suc, ◌==◌, ◌<◌, true, List, [], ◌∷◌, ◌++◌, map, Option, None, Some, get_or, slice_get, refl, sym, ap, ◌∙◌, subst, arith}
+use Rattle.std.proofs.Common.{◌≡◌, ℕ, zero, suc, ◌==◌, ◌<◌, true, List, [], ◌∷◌, map, Option, None, Some, get_or, slice_get, refl, sym, ap, ◌∙◌, subst, arith}
 use Rattle.std.specs.List.{AllByRecursion}
 use Rattle.std.proofs.lemmas.Bool.{false≢true}
 use Rattle.std.proofs.lemmas.Option.{get_or_from_slice_get, slice_get_within}
@@ -18,33 +18,37 @@ use Rattle.pl_node.specs.HostInputs.{HostRule}
 use Rattle.pl_node.specs.PortRecords.{heard_place, id_at, place_at, port_of}
 use Rattle.pl_node.specs.SwitchFacts.{part_of, switch_at_boot}
 use Rattle.pl_node.specs.SwitchViews.{SwitchView}
-use Rattle.pl_manager_rule.specs.ManagerRule.{manager_rule}
+use Rattle.pl_manager_rule.specs.WholeRule.{whole_rule}
 use Rattle.pl_switch_rule.specs.SwitchRule.{Loose}
-use Rattle.pl_switch_rule.proofs.Exports.{loose_steps_are_accounted}
+use Rattle.pl_world.specs.declared.event.Event.{Event}
 use Rattle.pl_world.specs.declared.limits.Limits.{Limits}
 use Rattle.pl_world.specs.Booting.{CanBegin, booted}
-use Rattle.pl_world.specs.Runs.{Befalls, Moment, WorldRun}
-use Rattle.pl_world.specs.Runs.Moment.{Mark, Step}
+use Rattle.pl_world.specs.Refusals.{refusal}
+use Rattle.pl_world.specs.Runs.{Moment, WorldRun}
+use Rattle.pl_world.specs.WorldRule.{WorldStep}
 use Rattle.pl_world.specs.Worlds.{WorldView}
 use Rattle.pl_world.proofs.Exports.{all_found}
 use Rattle.pl_law_control_plane.specs.ControlPlanes.{AreAdjacent, ControlPlane, control_plane, no_switch}
 use Rattle.pl_law_control_plane.specs.HostsAtEdges.{IsAtEdge}
-use Rattle.pl_law_control_plane.proofs.Exports.{adjacent_turned, plan_stays, step_in_plane}
+use Rattle.pl_law_control_plane.proofs.Exports.{adjacent_turned, plan_same}
 use Rattle.pl_law_due.specs.Due.{due_plane}
+use Rattle.pl_law_due.specs.DueSteps.{OnDue}
+use Rattle.pl_law_due.specs.DueSteps.OnDue.{BeginsAnew, Steps}
 use Rattle.pl_law_due.proofs.Exports.{nothing_due}
 use Rattle.pl_law_places.specs.Places.{ArePlaced}
+use Rattle.pl_law_places.specs.Told.{IsTrueOf}
 use Rattle.pl_law_votes.proofs.Exports.{fixed_are_apart}
 use Rattle.pl_law_pods.proofs.Exports.{numbers_told}
-use Rattle.pl_law_placing.proofs.Exports.{seen_later, step_seen}
+use Rattle.pl_law_placing.proofs.Exports.{seen_later, seen_on}
 use Rattle.pl_law_invariant.specs.ControlInvariant.{ControlInvariant}
-use Rattle.pl_law_invariant.proofs.Exports.{grounded, run_keeps_all, world_due}
+use Rattle.pl_law_invariant.proofs.Exports.{grounded, holds_in_run, kept_at_first, world_due, world_on_plane}
 use Rattle.pl_law_records.specs.Records.{is_neighbour}
 use Rattle.pl_law_records.proofs.Exports.{names_neighbours, neighbour_is}
 use Rattle.pl_law_copies.specs.Copies.{ComesOnce}
 use Rattle.pl_law_copies.specs.Standing.{KnowTrees, KnowsTree}
 use Rattle.pl_law_copies.proofs.CopiesInRuns.{mark_once, once_at_first, step_once}
 use Rattle.pl_law_copies.specs.Trees.{AreTrees, IsTrueOrder, IsTruePart, IsTrueReport, PartLeadsOn}
-use Rattle.pl_law_copies.proofs.DueTrees.{due_trees}
+use Rattle.pl_law_copies.proofs.DueTrees.{due_trees, restart_trees}
 use Rattle.pl_law_copies.proofs.KeepingTrees.{level_is}
 use Rattle.pl_law_copies.proofs.Parts.{found_true}
 use Rattle.pl_journal.specs.Flights.{level_of}
@@ -137,40 +141,40 @@ pub record HoldsOnce (w : WorldView) : Type 0 where
   pub trees : AreTrees w.plan (due_plane (control_plane w))
   pub come : ComesOnce w
 
-module _ (host : HostRule) (sends : HostsSendData host) (owns : HostsSendOwn host) where
-  run_more : (old mid new : WorldView) (moments : List Moment) (moment : Moment) → WorldRun Loose manager_rule host old moments mid →
-      Befalls Loose manager_rule host mid moment new → WorldRun Loose manager_rule host old (moments ++ moment ∷ []) new
-  run_more old mid new [] moment run more = (new, subst (λ (w : WorldView). Befalls Loose manager_rule host w moment new) run more, refl)
-  run_more old mid new (first ∷ moments) moment run more = (run.0, run.1, run_more run.0 mid new moments moment run.2 more)
+-- a step keeps both
+module _ (host : HostRule) (old : WorldView) (event : Event) (new : WorldView) (kept : ControlInvariant old) (after : ControlInvariant new)
+    (holds : HoldsOnce old) (none : refusal old event ≡ None) (step : WorldStep Loose whole_rule host old event new) where
+  same_plan : new.plan ≡ old.plan
+  same_plan = plan_same Loose whole_rule (control_plane old) (control_plane new) (world_on_plane host old event new kept none step)
 
-  -- from any moment of a run from the beginning on
-  once_from : (plan : Plan) (limits : Limits) → CanBegin plan → (before : List Moment) (old : WorldView) → WorldRun Loose manager_rule host (booted plan limits) before old →
-      HoldsOnce old → (moments : List Moment) (new : WorldView) → WorldRun Loose manager_rule host old moments new → HoldsOnce new
-  once_from plan limits can before old run holds [] new same = subst HoldsOnce (sym same) holds
-  once_from plan limits can before old run holds (Step event ∷ moments) new rest =
-      let longer = run_more (booted plan limits) old rest.0 before (Step event) run rest.1 in
-      let kept = run_keeps_all host sends owns plan limits before old can run in
-      let after = run_keeps_all host sends owns plan limits (before ++ Step event ∷ []) rest.0 can longer in
-      let taken = step_in_plane Loose manager_rule host loose_steps_are_accounted old event rest.0 kept.counted kept.hosts rest.1.0 rest.1.1 in
-      let same = plan_stays Loose manager_rule (control_plane old) (control_plane rest.0) taken in
-      let grown = seen_later (control_plane old) (control_plane rest.0) (step_seen manager_rule (control_plane old) (control_plane rest.0) kept.counted.formed.plan kept.placed
-      (fixed_are_apart old.plan (control_plane old).view (control_plane old).says kept.counted.formed.plan kept.voting) (numbers_told (control_plane old) kept.counted.formed.plan kept.gathered kept.numbered) taken) in
-      let near : (s p : ℕ) (u : SwitchId) → id_at ((control_plane rest.0).view s) p ≡ Some u → is_neighbour old.plan s u ≡ true = λ s p u at.
-      let names = names_neighbours rest.0 after s p u at in
-      subst (λ (x : Plan). is_neighbour x s u ≡ true) same (neighbour_is rest.0.plan s p names.0 names.1 u after.counted.formed.plan names.2 names.3) in
-      let due = world_due host old event rest.0 kept rest.1.0 rest.1.1 in
-      let trees = due_trees old.plan kept.counted.formed.plan (due_plane (control_plane old)) (due_plane (control_plane rest.0)) refl
-      (placed_due old.plan (control_plane old) kept.placed) grown near holds.trees due in
-      once_from plan limits can (before ++ Step event ∷ []) rest.0 longer (record {
-        trees = subst (λ (p : Plan). AreTrees p (due_plane (control_plane rest.0))) (sym same) trees;
-        come = step_once manager_rule host old event rest.0 kept.counted (know_trees old kept holds.trees) rest.1.0 rest.1.1 holds.come;
-      }) moments new rest.2
-  once_from plan limits can before old run holds (Mark entry ∷ moments) new rest =
-      let longer = run_more (booted plan limits) old rest.0 before (Mark entry) run rest.1 in
-      once_from plan limits can (before ++ Mark entry ∷ []) rest.0 longer
-      (subst HoldsOnce (sym rest.1.1) (record { trees = holds.trees; come = mark_once old entry rest.1.0 holds.come })) moments new rest.2
+  grown : (s : ℕ) → IsTrueOf ((control_plane old).view s).place ((control_plane new).view s).place
+  grown =
+      let f = control_plane old in
+      let is = kept.counted.formed.plan in
+      seen_later f (control_plane new)
+      (seen_on whole_rule f (control_plane new) is kept.placed (fixed_are_apart f.plan f.view f.says is kept.voting)
+      (numbers_told f is kept.gathered kept.numbered) (world_on_plane host old event new kept none step))
 
-  pub run_once : (plan : Plan) (limits : Limits) (moments : List Moment) (new : WorldView) → CanBegin plan →
-      WorldRun Loose manager_rule host (booted plan limits) moments new → HoldsOnce new
-  run_once plan limits moments new can run =
-      once_from plan limits can [] (booted plan limits) refl (record { trees = trees_at_first plan limits; come = once_at_first plan limits }) moments new run
+  near : (s p : ℕ) (u : SwitchId) → id_at ((control_plane new).view s) p ≡ Some u → is_neighbour old.plan s u ≡ true
+  near s p u at =
+      let names = names_neighbours new after s p u at in
+      subst (λ (x : Plan). is_neighbour x s u ≡ true) same_plan (neighbour_is new.plan s p names.0 names.1 u after.counted.formed.plan names.2 names.3)
+
+  trees_by : OnDue Loose (due_plane (control_plane old)) (due_plane (control_plane new)) → AreTrees old.plan (due_plane (control_plane new))
+  trees_by (Steps due) =
+      due_trees old.plan kept.counted.formed.plan (due_plane (control_plane old)) (due_plane (control_plane new)) refl
+      (placed_due old.plan (control_plane old) kept.placed) grown near holds.trees due
+  trees_by (BeginsAnew anew) = restart_trees old.plan (due_plane (control_plane old)) (due_plane (control_plane new)) anew holds.trees
+
+  step_holds_once : HoldsOnce new
+  step_holds_once = record {
+    trees = subst (λ (p : Plan). AreTrees p (due_plane (control_plane new))) (sym same_plan) (trees_by (world_due host old event new kept none step));
+    come = step_once whole_rule host old event new kept.counted (know_trees old kept holds.trees) none step holds.come;
+  }
+
+pub run_once : (host : HostRule) → HostsSendData host → HostsSendOwn host → (plan : Plan) (limits : Limits) (moments : List Moment) (new : WorldView) →
+    CanBegin plan → WorldRun Loose whole_rule host (booted plan limits) moments new → HoldsOnce new
+run_once host sends owns plan limits moments new can run =
+    holds_in_run host sends owns HoldsOnce (step_holds_once host)
+    (λ w entry mark holds. record { trees = holds.trees; come = mark_once w entry mark holds.come })
+    (booted plan limits) moments new (kept_at_first plan limits can) (record { trees = trees_at_first plan limits; come = once_at_first plan limits }) run

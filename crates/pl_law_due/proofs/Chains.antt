@@ -9,7 +9,8 @@ use Rattle.pl_law_control_plane.specs.ControlPlanes.{ControlPlane}
 use Rattle.pl_law_control_plane.specs.PlaneSteps.{ordered}
 use Rattle.pl_law_control_plane.proofs.Exports.{any_append}
 use Rattle.pl_law_due.specs.Due.{due_of, due_plane, is_hello, is_silent, read}
-use Rattle.pl_law_due.specs.DueSteps.{IsAlike, ManagerPart, Parts, released}
+use Rattle.pl_law_control_plane.specs.Restarts.{IsAlike}
+use Rattle.pl_law_due.specs.DueSteps.{ManagerPart, Parts, released}
 use Rattle.pl_law_due.specs.DueSteps.ManagerPart.{Released, Treated, Turned}
 use Rattle.pl_law_due.specs.Gathering.{AreUnheard, GathersWell}
 use Rattle.pl_law_due.proofs.Sifting.{silent_part}

@@ -18,7 +18,7 @@ use Rattle.pl_law_control_plane.specs.ControlPlanes.{ControlPlane}
 use Rattle.pl_law_control_plane.specs.PlaneSteps.{IsOrderTaken, IsReportTaken, LosesNoWord, ManagerTurns, PlaneStep, SwitchTurns}
 use Rattle.pl_law_control_plane.specs.PlaneSteps.PlaneStep.{Carried, Entered, Heard, Left, Managed, Ordered, Ticked}
 use Rattle.pl_law_due.specs.Due.{is_hello, is_silent}
-use Rattle.pl_law_due.specs.DueSteps.{Restarts}
+use Rattle.pl_law_control_plane.specs.Restarts.{Restarts}
 use Rattle.pl_law_due.specs.Gathering.{EpochsAgree, GathersWell, HasEpoch}
 use Rattle.pl_law_due.proofs.Chains.{due_unheard}
 use Rattle.pl_law_due.proofs.Staying.{epoch_after, silent_after}

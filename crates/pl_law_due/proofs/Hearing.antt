@@ -28,7 +28,8 @@ use Rattle.pl_law_control_plane.specs.ControlPlanes.{ControlPlane}
 use Rattle.pl_law_control_plane.specs.PlaneSteps.{IsReportTaken, ManagerTurns, ordered, ordered_by}
 use Rattle.pl_law_control_plane.proofs.Exports.{any_append}
 use Rattle.pl_law_due.specs.Due.{at_id, due_of, due_plane, is_hello, is_silent, queue_of, read, treated, words_of}
-use Rattle.pl_law_due.specs.DueSteps.{AllReleaseWhere, IsAlike, IsLast, IsTurned, ManagerPart, Parts, released, ReleasesWhere}
+use Rattle.pl_law_control_plane.specs.Restarts.{IsAlike}
+use Rattle.pl_law_due.specs.DueSteps.{AllReleaseWhere, IsLast, IsTurned, ManagerPart, Parts, released, ReleasesWhere}
 use Rattle.pl_law_due.specs.DueSteps.ManagerPart.{Released, Turned}
 use Rattle.pl_law_due.specs.Gathering.{GathersWell}
 use Rattle.pl_law_due.proofs.Ids.{at_named, at_stranger, ids_apart, named_there, switch_is, there_named}

@@ -10,10 +10,10 @@ pub mod Telling
 pub mod Staying
 pub mod Stepping
 pub mod Beginning
-pub mod FirstEpoch
 pub mod OneWord
 pub mod Restarting
 pub mod Chains
 pub mod SwitchEpochs
 pub mod Epochs
+pub mod OnDue
 pub mod Exports

@@ -18,7 +18,8 @@ use Rattle.pl_manager_rule.specs.Treating.{Treating, at_rest, then_releases, to_
 use Rattle.pl_manager_rule.proofs.Exports.{IsReleaseTo, released_to}
 use Rattle.pl_law_control_plane.specs.ControlPlanes.{ControlPlane}
 use Rattle.pl_law_control_plane.specs.PlaneSteps.{ManagerTurns, is_to, ordered, ordered_by}
-use Rattle.pl_law_due.specs.DueSteps.{IsAlike, Releases, released, treats_one}
+use Rattle.pl_law_control_plane.specs.Restarts.{IsAlike}
+use Rattle.pl_law_due.specs.DueSteps.{Releases, released, treats_one}
 
 -- that an address has aged, or that a trap stands for it
 abbrev pub is_note : ToManager → Bool

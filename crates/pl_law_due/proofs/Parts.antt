@@ -19,7 +19,8 @@ use Rattle.pl_manager_rule.specs.Treating.{Treating, treats}
 use Rattle.pl_law_control_plane.specs.ControlPlanes.{ControlPlane}
 use Rattle.pl_law_control_plane.specs.PlaneSteps.{IsReportTaken, LeftOver, ManagerTurns, ordered, ordered_by}
 use Rattle.pl_law_due.specs.Due.{read, treated}
-use Rattle.pl_law_due.specs.DueSteps.{AllReleaseWhere, IsAlike, ManagerPart, Parts, ReleasesWhere, treats_one}
+use Rattle.pl_law_control_plane.specs.Restarts.{IsAlike}
+use Rattle.pl_law_due.specs.DueSteps.{AllReleaseWhere, ManagerPart, Parts, ReleasesWhere, treats_one}
 use Rattle.pl_law_due.specs.DueSteps.ManagerPart.{Treated}
 use Rattle.pl_law_due.proofs.Ids.{ids_apart, switch_is, there_named}
 use Rattle.pl_law_due.proofs.Treating.{alike_treated}

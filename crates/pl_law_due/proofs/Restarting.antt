@@ -20,7 +20,7 @@ use Rattle.pl_manager_rule.specs.WholeRule.{gathered}
 use Rattle.pl_world.proofs.Exports.{switches_of_tree}
 use Rattle.pl_law_control_plane.specs.ControlPlanes.{ControlPlane}
 use Rattle.pl_law_due.specs.Due.{due_of, due_plane, is_hello, is_silent, read, treated, words_of}
-use Rattle.pl_law_due.specs.DueSteps.{Restarts}
+use Rattle.pl_law_control_plane.specs.Restarts.{Restarts}
 use Rattle.pl_law_due.specs.Gathering.{GathersBy, GathersWell, IsNoEnd}
 use Rattle.pl_law_due.proofs.Ids.{AreApart, at_named, ids_apart, switch_is, there_named}
 

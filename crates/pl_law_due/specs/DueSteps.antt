@@ -1,14 +1,13 @@
 -- What a step of the control plane is to what is due: it is one or more steps of the control plane again, in which the manager hears what it treats.
-use Rattle.std.specs.Prelude.{◌≡◌, ◌⊎◌, ℕ, ◌+◌, ◌<◌, if◌then◌else◌, not, true, List, [], ◌∷◌, ◌++◌, Some, slice_get}
+use Rattle.std.specs.Prelude.{◌≡◌, ◌⊎◌, ℕ, ◌<◌, if◌then◌else◌, not, true, List, [], ◌∷◌, ◌++◌, Some, slice_get}
 use Rattle.std.specs.List.{filter}
 use Rattle.pl_frame.specs.declared.address.SwitchId.{SwitchId}
 use Rattle.pl_pmac.specs.declared.pmac.Pmac.{Pmac}
 use Rattle.pl_wiring.specs.Labels.{switch_count}
 use Rattle.pl_node.specs.declared.acts.ManagerAct.{ManagerAct}
 use Rattle.pl_node.specs.declared.messages.ToManager.{ToManager}
-use Rattle.pl_node.specs.declared.messages.ToSwitch.TheVariants.{Hello}
 use Rattle.pl_node.specs.ManagerDuties.{ManagerRule}
-use Rattle.pl_node.specs.ManagerViews.{ManagerView, restarted_manager}
+use Rattle.pl_node.specs.ManagerViews.{ManagerView}
 use Rattle.pl_node.specs.SwitchInputs.{SwitchRule}
 use Rattle.pl_node.specs.SwitchViews.{SwitchView}
 use Rattle.pl_gathering.specs.Acting.{Done}
@@ -17,19 +16,13 @@ use Rattle.pl_manager_rule.specs.Treating.{Treating, at_rest, follows, treats, w
 use Rattle.pl_manager_rule.specs.WholeRule.{gathered}
 use Rattle.pl_law_control_plane.specs.ControlPlanes.{ControlPlane}
 use Rattle.pl_law_control_plane.specs.PlaneSteps.{ComeSo, IsReportTaken, ManagerTurns, WholeStep, ordered}
+use Rattle.pl_law_control_plane.specs.Restarts.{IsAlike, Restarts}
 use Rattle.pl_law_due.specs.Due.{is_silent, words_of}
 
 -- the rule of the manager for one word that it treats
 abbrev pub treats_one : ManagerRule
 treats_one before s says after acts =
     let done = treats (at_rest before) (record { switch = s; word = says }) in (after ≡ done.known.view) × (acts ≡ done.acts)
-
--- The switches know the same then, and the same waits between them.
-pub record IsAlike (f g : ControlPlane) : Type 0 where
-  pub plan : g.plan ≡ f.plan
-  pub view : (s : ℕ) → g.view s ≡ f.view s
-  pub says : (s port : ℕ) → g.says s port ≡ f.says s port
-  pub carries : (s port : ℕ) → g.carries s port ≡ true → f.carries s port ≡ true
 
 -- what follows from the words that were treated: addresses that were told to have aged are released
 abbrev pub released : ManagerView → List Pmac → Done Treating ManagerAct
@@ -73,14 +66,6 @@ pub record IsSifted (f g : ControlPlane) : Type 0 where
   pub orders : (s : ℕ) → g.orders s ≡ f.orders s
   pub manager : g.manager ≡ f.manager
 
--- The manager begins anew: it knows nothing, all that waited between it and the switches is gone, and each switch is told.
-pub record Restarts (f g : ControlPlane) : Type 0 where
-  pub alike : IsAlike f g
-  pub reports : (s : ℕ) → g.reports s ≡ []
-  pub orders : (s : ℕ) → s < switch_count f.plan.k → g.orders s ≡ Hello (f.manager.epoch + 1) ∷ []
-  pub beyond : (s : ℕ) → (s < switch_count f.plan.k → ⊥) → g.orders s ≡ []
-  pub manager : g.manager ≡ restarted_manager f.plan.k (f.manager.epoch + 1)
-
 -- A step to what is due: a step as before, in which the manager treats a word at once, and what is told is sifted; or what the manager does, part by
 -- part.
 pub data DueStep (switch : SwitchRule) (f g : ControlPlane) : Type 0 where
@@ -91,6 +76,11 @@ pub data DueStep (switch : SwitchRule) (f g : ControlPlane) : Type 0 where
 abbrev pub ComeSoDue : (SwitchView → ℕ → List ℕ → Type 0) → (SwitchView → ℕ → List ℕ → Type 0) → (switch : SwitchRule) (f g : ControlPlane) → DueStep switch f g → Type 0
 ComeSoDue host link switch f g (Stepped told step sifted) = ComeSo host link switch treats_one f told step.0
 ComeSoDue host link switch f g (Managed mids parts) = Unit {0}
+
+-- what a step of the world is to what is due
+pub data OnDue (switch : SwitchRule) (f g : ControlPlane) : Type 0 where
+  Steps : DueStep switch f g → OnDue switch f g
+  BeginsAnew : Restarts f g → OnDue switch f g
 
 -- Addresses are released only where this holds.
 abbrev pub ReleasesWhere : (ControlPlane → Type 0) → (f g : ControlPlane) → ManagerPart f g → Type 0

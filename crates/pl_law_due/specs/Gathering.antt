@@ -70,3 +70,7 @@ pub record HasEpoch (v : SwitchView) (hushed : Bool) (epoch : ℕ) : Type 0 wher
 
 abbrev pub EpochsAgree : ControlPlane → Type 0
 EpochsAgree f = (s : ℕ) (id : SwitchId) → slice_get f.plan.ids s ≡ Some id → HasEpoch (f.view s) (is_silent f.orders s) f.manager.epoch
+
+-- the manager's switches have as many ports as those of the wiring
+abbrev pub IsSized : ControlPlane → Type 0
+IsSized f = f.manager.k ≡ f.plan.k

@@ -10,8 +10,9 @@ ghost use Rattle.pl_world.specs.Booting.{booted};
 ghost use Rattle.pl_law_control_plane.specs.ControlPlanes.{ControlPlane, control_plane};
 ghost use Rattle.pl_law_control_plane.specs.PlaneSteps.{WholeStep};
 ghost use Rattle.pl_law_due.specs.Due.{due_plane, is_silent};
-ghost use Rattle.pl_law_due.specs.DueSteps.{DueStep, Restarts};
-ghost use Rattle.pl_law_due.specs.Gathering.{EpochsAgree, GathersWell, IsNoEnd};
+ghost use Rattle.pl_law_control_plane.specs.Restarts.{OnPlane, Restarts};
+ghost use Rattle.pl_law_due.specs.DueSteps.{DueStep, OnDue};
+ghost use Rattle.pl_law_due.specs.Gathering.{EpochsAgree, GathersWell, IsNoEnd, IsSized};
 
 /// Where reports are gathered in order, each step in which no word is lost is one to what is due: a switch tells
 /// and the manager treats as in a step of the control plane, or the manager treats all that it kept.
@@ -34,6 +35,17 @@ pub fn nothing_is_missing_at_the_beginning()
 pub fn a_restart_makes_nothing_due()
     ensures due { (old new : ControlPlane) → IsPlan old.plan → Restarts old new → Restarts (due_plane old) (due_plane new) }
     ensures gathered { (old new : ControlPlane) → IsPlan old.plan → Restarts old new → GathersWell new }
+{}
+
+/// So each step of the world, by which its manager steps or begins anew, is a step to what is due or a restart of it; reports
+/// stay gathered in order, and the manager keeps the number of ports of its switches.
+pub fn each_step_or_restart_is_one_to_what_is_due()
+    ensures due { (old new : ControlPlane) → IsPlan old.plan → IsSized old → GathersWell old → OnPlane Loose whole_rule old new →
+        OnDue Loose (due_plane old) (due_plane new) }
+    ensures gathered { (old new : ControlPlane) → IsPlan old.plan → IsSized old → GathersWell old → OnPlane Loose whole_rule old new → GathersWell new }
+    ensures sized { (old new : ControlPlane) → IsPlan old.plan → IsSized old → OnPlane Loose whole_rule old new → IsSized new }
+    ensures epochs { (old new : ControlPlane) → IsPlan old.plan → IsSized old → GathersWell old → EpochsAgree old → OnPlane Loose whole_rule old new →
+        EpochsAgree new }
 {}
 
 /// Where no report ends in a queue to the manager, and no order says that it began anew, none is missing.

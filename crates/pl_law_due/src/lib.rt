@@ -4,7 +4,8 @@
 
 pub use due_laws::{
     a_restart_makes_nothing_due, each_step_is_one_to_what_is_due, each_step_keeps_reports_gathered,
-    no_report_is_missing_at_rest, nothing_is_missing_at_the_beginning,
+    each_step_or_restart_is_one_to_what_is_due, no_report_is_missing_at_rest,
+    nothing_is_missing_at_the_beginning,
     the_epoch_of_a_switch_is_the_managers_where_it_is_not_silent,
 };
 

@@ -88,7 +88,47 @@ module _ (later : Bool) where
   pub leads : (t : Tenure) → IsIn later t → (to : Recall) → t.silent ≡ false → t.use_is ≡ Leads to → IsLed t to
   leads = by_situation (λ t. (to : Recall) → t.silent ≡ false → t.use_is ≡ Leads to → IsLed t to) leads_at
 
+  -- and where it is told it is registered
+  told_at : (s : Situation later) (to : Recall) → (tenure_of s).silent ≡ false → (tenure_of s).use_is ≡ Leads to → list_any is_learns (tenure_of s).due ≡ true →
+      (led : Recall) × ((tenure_of s).known ≡ Knows true (Some led) false)
+  told_at (Led own some due calm true fresh) to loud is any = (own, refl)
+  told_at (Led own some due calm false fresh) to loud is any = absurd (false≢true (ap (list_any is_learns) (sym (fresh refl)) ∙ any))
+  told_at (LedTold own some now) to loud is any = absurd (false≢true any)
+  told_at (Silent use_is due numbered now) to loud is any = not_false loud
+  told_at (Used due calm known told) to loud is any = absurd (cc)
+  told_at (Recalled own some due calm) to loud is any = absurd (cc)
+  told_at (Resting behind due calm known told) to loud is any = absurd (cc)
+  told_at (RestTold number now) to loud is any = absurd (cc)
+  told_at (RestLedTold own now) to loud is any = absurd (cc)
+  told_at (Counted number behind known at) to loud is any = absurd (cc)
+  told_at (RestRecalled own some due calm) to loud is any = absurd (cc)
+  told_at (Released number) to loud is any = absurd (cc)
+  told_at Gone to loud is any = absurd (cc)
+
+  pub told_known : (t : Tenure) → IsIn later t → (to : Recall) → t.silent ≡ false → t.use_is ≡ Leads to → list_any is_learns t.due ≡ true → (led : Recall) × (t.known ≡ Knows true (Some led) false)
+  told_known = by_situation (λ t. (to : Recall) → t.silent ≡ false → t.use_is ≡ Leads to → list_any is_learns t.due ≡ true → (led : Recall) × (t.known ≡ Knows true (Some led) false)) told_at
+
 -- ---- words and orders in queues
+told_learns : (x : Pmac) (up : List ToManager) → list_any (tells x) up ≡ true → list_any is_learns (words_on x up) ≡ true
+told_learns x [] any = absurd (false≢true any)
+told_learns x (tell.Learned y a b ∷ up) any = by (same_pmac y x) any (told_learns x up)
+  where
+    by : (c : Bool) → (c || list_any (tells x) up) ≡ true → (list_any (tells x) up ≡ true → list_any is_learns (words_on x up) ≡ true) →
+        list_any is_learns ((if c then Learns ∷ [] else []) ++ words_on x up) ≡ true
+    by true h rest = refl
+    by false h rest = rest h
+told_learns x (tell.Aged y n ∷ up) any = by (same_pmac y x) (told_learns x up any)
+  where
+    by : (c : Bool) → list_any is_learns (words_on x up) ≡ true → list_any is_learns ((if c then Ages n ∷ [] else []) ++ words_on x up) ≡ true
+    by true h = h
+    by false h = h
+told_learns x (tell.Trapped y new n ∷ up) any = by (same_pmac y x) (told_learns x up any)
+  where
+    by : (c : Bool) → list_any is_learns (words_on x up) ≡ true → list_any is_learns ((if c then Traps (record { new = new; number = n }) ∷ [] else []) ++ words_on x up) ≡ true
+    by true h = h
+    by false h = h
+told_learns x (says ∷ up) any = told_learns x up any
+
 learns_told : (x : Pmac) (up : List ToManager) → list_any is_learns (words_on x up) ≡ true → list_any (tells x) up ≡ true
 learns_told x [] any = absurd (false≢true any)
 learns_told x (tell.Learned y a b ∷ up) any = by (same_pmac y x) any (learns_told x up)
@@ -241,3 +281,11 @@ module _ (own : Mac → Option Ip4) (f : ControlPlane) (a : AreAddressed own f) 
           | inl known ↦ inl (known_leads (is_some (r.at x)) (r.known_at x) known.0 (Some to) false known.1)
           | inr due ↦ inr (traps_told x to (f.reports s) due)
         ]
+
+    -- and one that is told by a word that is due is registered
+    pub trapped_told : (trap : Trap) → standing_trap g.held ≡ Some trap → list_any (tells x) (f.reports s) ≡ true → (reg : Registration) × (registration f.manager.learnt x ≡ Some reg)
+    trapped_told trap stands any =
+        let to : Recall = record { new = trap.new; number = trap.number } in
+        let it = told_known r.later (tenure_at r e x) here to loud (ap (λ (o : Option Grant). use_of (option_map (λ (q : Grant). q.held) o)) found ∙ trapped_leads g.held trap stands)
+        (told_learns x (f.reports s) any) in
+        known_registered (r.at x) (r.known_at x) (Some it.0) false it.1

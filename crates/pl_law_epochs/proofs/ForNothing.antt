@@ -25,9 +25,9 @@ use Rattle.pl_world.specs.Worlds.{WorldView}
 use Rattle.pl_world.proofs.Exports.{all_found}
 use Rattle.pl_law_control_plane.specs.ControlPlanes.{ControlPlane, control_plane, no_switch}
 use Rattle.pl_law_due.specs.Due.{due_plane}
-use Rattle.pl_law_phases.specs.Tenures.{is_held, orders_of}
 use Rattle.pl_law_addresses.specs.Addressed.{IsLiveNowhere}
-use Rattle.pl_law_addresses.specs.EdgeAddresses.{IsHeldFor, is_live}
+use Rattle.pl_law_addresses.specs.EdgeAddresses.{IsHeldFor, is_held, is_live}
+use Rattle.pl_law_addresses.specs.Orders.{orders_of}
 use Rattle.pl_law_addresses.specs.OwnAddresses.{own_ip}
 use Rattle.pl_law_addresses.specs.Standing.{StandsForNothing}
 use Rattle.pl_law_addresses.proofs.Exports.{exists_at, is_or_other}

@@ -12,7 +12,8 @@ use Rattle.pl_world.specs.Booting.{booted}
 use Rattle.pl_law_control_plane.specs.ControlPlanes.{ControlPlane, control_plane}
 use Rattle.pl_law_control_plane.specs.PlaneSteps.{WholeStep}
 use Rattle.pl_law_due.specs.Due.{due_plane, read}
-use Rattle.pl_law_due.specs.DueSteps.{DueStep, Restarts}
+use Rattle.pl_law_control_plane.specs.Restarts.{Restarts}
+use Rattle.pl_law_due.specs.DueSteps.{DueStep}
 use Rattle.pl_law_due.specs.Gathering.{GathersWell}
 use Rattle.pl_law_due.proofs.Exports.{come_due, due_unheard, step_due, step_gathers, restart_due, step_releases}
 use Rattle.pl_law_epochs.specs.Addressed.{AreApart, BringsOwn, ComesFromSwitch, IsFair}
@@ -23,6 +24,7 @@ use Rattle.pl_law_epochs.proofs.Beginning.{first_in_order}
 use Rattle.pl_law_epochs.proofs.LeadingSteps.{first_leads, restart_leads, step_leads}
 use Rattle.pl_law_epochs.proofs.Restarting.{restart_in_order}
 use Rattle.pl_law_epochs.proofs.Stepping.{step_in_order}
+use Rattle.pl_law_epochs.proofs.TrapsStood.{TrapsStood, step_stood}
 use Rattle.pl_law_epochs.proofs.TrapReports.{heard_out_step, restart_reported, step_reported}
 
 pub plane_in_order : (own : Mac → Option Ip4) (f g : ControlPlane) → IsPlan f.plan → GathersWell f → AreApart f.view → AreApart g.view → (step : WholeStep Loose whole_rule f g) →
@@ -38,6 +40,13 @@ plane_in_order own f g is well apart apart_then step fair a =
       lead = step_leads own (due_plane f) (due_plane g) is unheard apart apart_then due fairly
           (heard_out_step g (step_gathers f g is well step.0 step.1) reported (due_plane f) (due_plane g) due (step_releases f g is well step.0 step.1)) a.addressed a.lead;
     }
+
+-- each trap that stands then stood before, or is set by the order that its switch obeys
+pub plane_stood : (own : Mac → Option Ip4) (f g : ControlPlane) → IsPlan f.plan → GathersWell f → AreApart f.view → AreApart g.view → (step : WholeStep Loose whole_rule f g) →
+    IsFair own Loose whole_rule f g step.0 → AddressesAreInOrder own f → TrapsStood f.plan f.view f.orders g.view
+plane_stood own f g is well apart apart_then step fair a =
+    step_stood own (due_plane f) (due_plane g) is (due_unheard f is well) apart apart_then (step_due f g is well step.0 step.1)
+    (come_due f g is well (λ v port frame. BringsOwn own v port frame) (λ v port frame. ComesFromSwitch v port frame) step.0 step.1 fair) a.addressed
 
 -- addresses are released only while each trap that stands was reported
 pub released_reported : (f g : ControlPlane) → IsPlan f.plan → GathersWell f → TrapsAreReported f → WholeStep Loose whole_rule f g →

@@ -227,21 +227,27 @@ module _ (own : Mac → Option Ip4) (plan : Plan) (view : ℕ → SwitchView) (d
       }
 
   module _ (s : ℕ) (id : SwitchId) (named : slice_get plan.ids s ≡ Some id) (x : Pmac) where
-    -- an order that recalls an address of a host leads to one that is registered for the host
+    -- an order that recalls an address leads from it to a newer one, and both are registered
+    pub order_newer : (new : Pmac) (number : ℕ) (ip : Option Ip4) (i : ℕ) → slice_get (orders s) i ≡ Some (say.Invalidate x new number ip) → IsHeld (λ z. granted (view s) z) x →
+        (reg : Registration) × ((r.at x ≡ Some reg) × LeadsToNewer r x new number reg.amac)
+    order_newer new number ip i waits held =
+        let good = a.edges s id named in
+        let to : Recall = record { new = new; number = number } in
+        let among = amid x new number ip (orders s) i waits in
+        let knows = recalled_known r.later (tenure_at r (edge_at s id) x) (good.situations x (good.placed x held.1.grant held.1.found)) to among.before among.behind among.are in
+        let reg = registered_there (r.at x) (r.known_at x) to knows in
+        let there = known_there (is_some (r.at x)) (r.known_at x) true to knows in
+        (reg.0, (reg.1, a.registry.leads x reg.0 there.known to reg.1 there.found there.recall there.waits))
+
+    -- for the host of which it is
     pub order_leads_on : (new : Pmac) (number : ℕ) (ip : Option Ip4) (i : ℕ) → slice_get (orders s) i ≡ Some (say.Invalidate x new number ip) → (mac : Mac) →
         IsHeldFor (λ z. granted (view s) z) x mac → LeadsOn plan view orders new mac
     order_leads_on new number ip i waits mac held =
         let good = a.edges s id named in
-        let to : Recall = record { new = new; number = number } in
-        let here = good.placed x held.grant held.found in
-        let among = amid x new number ip (orders s) i waits in
-        let knows = recalled_known r.later (tenure_at r (edge_at s id) x) (good.situations x here) to among.before among.behind among.are in
-        let reg = registered_there (r.at x) (r.known_at x) to knows in
-        let there = known_there (is_some (r.at x)) (r.known_at x) true to knows in
-        let newer : LeadsToNewer r x new number reg.0.amac = a.registry.leads x reg.0 there.known to reg.1 there.found there.recall there.waits in
-        let its = (good.here x reg.0 reg.1 here).granted_to in
-        let host : reg.0.amac ≡ mac = sym its.to ∙ ap (λ (g : Grant). g.amac) (same_Some its.grant held.grant (sym its.found ∙ held.found)) ∙ held.to in
-        registered_leads_on new newer.after newer.found_after mac (newer.mac_after ∙ host)
+        let it = order_newer new number ip i waits (mac, held) in
+        let its = (good.here x it.0 it.1.0 (good.placed x held.grant held.found)).granted_to in
+        let host : it.0.amac ≡ mac = sym its.to ∙ ap (λ (g : Grant). g.amac) (same_Some its.grant held.grant (sym its.found ∙ held.found)) ∙ held.to in
+        registered_leads_on new it.1.1.after it.1.1.found_after mac (it.1.1.mac_after ∙ host)
 
     -- a trap that stands is known, where its switch is not going to report it
     pub trap_there : (g : Grant) (trap : Trap) → granted (view s) x ≡ Some g → standing_trap g.held ≡ Some trap → is_unheard (orders s) ≡ false → AllByRecursion IsNoTrap (due s) →

@@ -30,7 +30,8 @@ use Rattle.pl_law_control_plane.specs.PlaneSteps.{IsLeft, IsOrderTaken, IsReport
 use Rattle.pl_law_control_plane.specs.PlaneSteps.PlaneStep.{Carried, Entered, Heard, Left, Managed, Ordered, Ticked}
 use Rattle.pl_law_control_plane.proofs.Exports.{booted_view}
 use Rattle.pl_law_due.specs.Due.{due_plane, is_hello}
-use Rattle.pl_law_due.specs.DueSteps.{AllReleaseWhere, DueStep, ManagerPart, Parts, Releases, ReleasesWhere, Restarts, treats_one}
+use Rattle.pl_law_control_plane.specs.Restarts.{Restarts}
+use Rattle.pl_law_due.specs.DueSteps.{AllReleaseWhere, DueStep, ManagerPart, Parts, Releases, ReleasesWhere, treats_one}
 use Rattle.pl_law_due.specs.DueSteps.DueStep.{Managed as ManagedBy, Stepped}
 use Rattle.pl_law_due.specs.DueSteps.ManagerPart.{Released, Treated, Turned}
 use Rattle.pl_law_due.specs.Gathering.{AreUnheard}

@@ -32,6 +32,7 @@ pub mod Consequences
 pub mod Leading
 pub mod LedByManager
 pub mod LeadingSteps
+pub mod TrapsStood
 pub mod AllEnded
 pub mod TrapWords
 pub mod Untrapped

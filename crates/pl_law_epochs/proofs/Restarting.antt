@@ -12,7 +12,7 @@ use Rattle.pl_node.specs.declared.messages.ToSwitch.{ToSwitch}
 use Rattle.pl_node.specs.declared.messages.ToSwitch.TheVariants as say
 use Rattle.pl_node.specs.ManagerViews.{ManagerView, restarted_manager}
 use Rattle.pl_law_control_plane.specs.ControlPlanes.{ControlPlane}
-use Rattle.pl_law_due.specs.DueSteps.{Restarts}
+use Rattle.pl_law_control_plane.specs.Restarts.{Restarts}
 use Rattle.pl_law_addresses.specs.EdgeAddresses.{Edge, edge_of}
 use Rattle.pl_law_epochs.specs.Addressed.{AreAddressed, AreInOrder}
 use Rattle.pl_law_epochs.specs.Edges.{IsGoodEdge, IsGoodRegistry, is_later, registry_of, tenure_at}

@@ -23,7 +23,8 @@ use Rattle.pl_law_control_plane.specs.ControlPlanes.{ControlPlane, tells}
 use Rattle.pl_law_control_plane.specs.PlaneSteps.{IsOrderTaken, IsReportTaken, LosesNoWord, ManagerTurns, PlaneStep, SwitchTurns}
 use Rattle.pl_law_control_plane.specs.PlaneSteps.PlaneStep.{Carried, Entered, Heard, Left, Managed, Ordered, Ticked}
 use Rattle.pl_law_due.specs.Due.{is_hello, is_silent, read}
-use Rattle.pl_law_due.specs.DueSteps.{AllReleaseWhere, DueReleasesWhere, DueStep, IsLast, ManagerPart, Parts, ReleasesWhere, Restarts}
+use Rattle.pl_law_control_plane.specs.Restarts.{Restarts}
+use Rattle.pl_law_due.specs.DueSteps.{AllReleaseWhere, DueReleasesWhere, DueStep, IsLast, ManagerPart, Parts, ReleasesWhere}
 use Rattle.pl_law_due.specs.DueSteps.DueStep.{Managed as ManagedBy, Stepped}
 use Rattle.pl_law_due.specs.DueSteps.ManagerPart.{Released, Treated, Turned}
 use Rattle.pl_law_due.specs.Gathering.{GathersWell}

@@ -5,7 +5,8 @@
 pub use epoch_laws::{
     a_registered_address_is_held, a_restart_keeps_addresses_in_order,
     a_standing_trap_is_known_or_reported, addresses_begin_in_order,
-    an_address_in_use_is_told_or_known, each_step_keeps_addresses_in_order,
+    an_address_in_use_is_told_or_known, an_ip_address_that_is_known_is_its_hosts_own,
+    each_step_keeps_addresses_in_order,
 };
 pub use plane_laws::{
     a_restart_keeps_all_addresses_in_order, each_step_of_the_control_plane_keeps_addresses_in_order,

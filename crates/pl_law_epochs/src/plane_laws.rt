@@ -6,7 +6,7 @@ ghost use Rattle.pl_switch_rule.specs.SwitchRule.{Loose};
 ghost use Rattle.pl_wiring.specs.Plan.{IsPlan};
 ghost use Rattle.pl_law_control_plane.specs.ControlPlanes.{ControlPlane};
 ghost use Rattle.pl_law_control_plane.specs.PlaneSteps.{WholeStep};
-ghost use Rattle.pl_law_due.specs.DueSteps.{Restarts};
+ghost use Rattle.pl_law_control_plane.specs.Restarts.{Restarts};
 ghost use Rattle.pl_law_due.specs.Gathering.{GathersWell};
 ghost use Rattle.pl_law_epochs.specs.Addressed.{AreApart, IsFair};
 ghost use Rattle.pl_law_epochs.specs.InOrder.{AddressesAreInOrder};

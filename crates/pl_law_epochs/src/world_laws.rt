@@ -1,7 +1,6 @@
 ghost use Rattle.std.specs.Prelude.{◌≡◌, ℕ, true, [], None, Some, slice_get};
 ghost use Rattle.pl_gathering.specs.Gathering.{is_whole};
-ghost use Rattle.pl_manager_rule.specs.ManagerRule.{manager_rule};
-ghost use Rattle.pl_manager_rule.specs.WholeRule.{IsFirst, gathered, whole_rule};
+ghost use Rattle.pl_manager_rule.specs.WholeRule.{gathered, whole_rule};
 ghost use Rattle.pl_node.specs.SwitchViews.{SwitchView};
 ghost use Rattle.pl_pmac.specs.declared.pmac.Pmac.{Pmac};
 ghost use Rattle.pl_queues.specs.Queues.{items_at};
@@ -18,7 +17,7 @@ ghost use Rattle.pl_world.specs.WorldRule.{WorldStep};
 ghost use Rattle.pl_world.specs.Worlds.{WorldView};
 ghost use Rattle.pl_law_control_plane.specs.ControlPlanes.{control_plane};
 ghost use Rattle.pl_law_control_plane.specs.HostsAtEdges.{HostsAtEdges};
-ghost use Rattle.pl_law_due.specs.Gathering.{GathersWell};
+ghost use Rattle.pl_law_due.specs.Gathering.{GathersWell, IsSized};
 ghost use Rattle.pl_law_addresses.specs.Addressed.{AreApart, IsGrounded, IsLiveNowhere};
 ghost use Rattle.pl_law_addresses.specs.OwnFrames.{HostsAreOwn};
 ghost use Rattle.pl_law_addresses.specs.Registered.{IsRegisteredWithIp, IsServed};
@@ -32,16 +31,13 @@ pub fn addresses_of_a_world_begin_in_order()
     ensures { (plan : Plan) (limits : Limits) → IsAddressed (booted plan limits) }
 {}
 
-/// Each step of a world in which reports are gathered in order keeps them in order, in each epoch, where hosts stand at
-/// edges and send frames of their own, placed edge switches stand apart before and after it, and no switch takes
-/// another one for a host. In the first epoch so does a step by the rule of one epoch.
+/// Each step of a world in which reports are gathered in order keeps them in order, a restart of the manager too, where
+/// hosts stand at edges and send frames of their own, placed edge switches stand apart before and after it, and no switch
+/// takes another one for a host.
 pub fn each_step_of_a_world_keeps_addresses_in_order<H: HostLogic>()
-    ensures whole { (old : WorldView) (event : Event) (new : WorldView) → IsCounted old → HostsAtEdges old → HostsAreOwn old → IsGrounded old →
-        AreApart new.switches → refusal old event ≡ None → GathersWell (control_plane old) → IsAddressed old →
+    ensures { (old : WorldView) (event : Event) (new : WorldView) → IsCounted old → HostsAtEdges old → HostsAreOwn old → IsGrounded old →
+        AreApart new.switches → refusal old event ≡ None → IsSized (control_plane old) → GathersWell (control_plane old) → IsAddressed old →
         WorldStep Loose whole_rule H.rule old event new → IsAddressed new }
-    ensures first { (old : WorldView) (event : Event) (new : WorldView) → IsCounted old → HostsAtEdges old → HostsAreOwn old → IsGrounded old →
-        AreApart new.switches → refusal old event ≡ None → GathersWell (control_plane old) → IsAddressed old → IsFirst old.manager →
-        WorldStep Loose manager_rule H.rule old event new → IsAddressed new }
 {}
 
 /// Where no report is missing, and nothing waits between an edge switch and the manager, each host that the switch serves

@@ -3,7 +3,7 @@ use Rattle.std.proofs.Common.{◌≡◌, ◌⊎◌, ℕ, zero, suc, Bool, true, 
 use Rattle.pl_wiring.specs.declared.host.HostNo.{HostNo}
 use Rattle.pl_wiring.specs.Plan.{Plan}
 use Rattle.pl_script.specs.declared.command.Command.{Command}
-use Rattle.pl_script.specs.declared.command.Command.TheVariants.{Deliver, Drain, ExpectAddress, ExpectArrived, ExpectDropped, ExpectSettled, Fail, Join, Leave, Lose, Move, Random, Raw, Repair, Retry, Send, Settle, Start, Sweep, Tick}
+use Rattle.pl_script.specs.declared.command.Command.TheVariants.{Deliver, Drain, ExpectAddress, ExpectArrived, ExpectDropped, ExpectSettled, Fail, Join, Leave, Lose, Move, Random, Raw, Repair, Restart, Retry, Send, Settle, Start, Sweep, Tick}
 use Rattle.pl_script.specs.declared.command.Count.{Count}
 use Rattle.pl_script.specs.declared.command.Count.TheVariants as count
 use Rattle.pl_script.specs.declared.command.Count.TheVariants.{N}
@@ -145,6 +145,7 @@ module _ (switch : SwitchRule) (manager : ManagerRule) (host : HostRule) (switch
       (times_one_way times (Sweeps switch manager host) (sweeps_one_way switch manager host switches managers hosts) old.world)
   does_once records (Settle rounds) = settles_once rounds
   does_once records (Drain sweeps) = drains_once sweeps
+  does_once records Restart = happens_once (event.Restart ∷ [])
   does_once records (Random number steps) = λ old.
       of_world_once (Draws switch manager host steps number) old (draws_one_way switch manager host switches managers hosts steps number old.world)
   does_once records (ExpectArrived h many) = λ old. expects_once (arrivals old.world.journal h ≡ many) old

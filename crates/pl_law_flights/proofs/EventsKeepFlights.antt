@@ -41,7 +41,7 @@ use Rattle.pl_world.specs.Refusals.{refusal, has_host, has_port, has_switch, is_
 use Rattle.pl_world.specs.WorldRule.{ComesIn, ComesOver, DeliversFromHost, DeliversFromManager, Happens, SwitchTurn, WorldStep}
 use Rattle.pl_world.specs.Worlds.{WorldView}
 use Rattle.pl_world.proofs.Exports.{all_found, counted as to_counted, event_is_not_refused, fails, found_contained, Happened, happened, head_is_item, live_before, same_refusal, sound, there_is}
-use Rattle.pl_world.proofs.Exports.Happened.{Asked, Departed, Failed, FromHost, Lost, Ordered, OutOfPort, OverLink, PlayedFrame, Repaired, Reported, Ticked}
+use Rattle.pl_world.proofs.Exports.Happened.{Asked, BeganAnew, Departed, Failed, FromHost, Lost, Ordered, OutOfPort, OverLink, PlayedFrame, Repaired, Reported, Ticked}
 use Rattle.pl_law_flights.specs.Given.{IsGroundForStep}
 use Rattle.pl_law_flights.specs.OnTheWay.{IsJournaled}
 use Rattle.pl_law_flights.specs.Standing.{StandsOn, StandsOnHosts}
@@ -57,7 +57,7 @@ use Rattle.pl_law_flights.proofs.FromManager.{says_journaled}
 use Rattle.pl_law_flights.proofs.HostTurns.{host_journaled, plays_journaled}
 use Rattle.pl_law_flights.proofs.Moving.{goes_journaled}
 use Rattle.pl_law_flights.proofs.NoneJustIn.{none_just_in}
-use Rattle.pl_law_flights.proofs.Numbering.{manager_journaled}
+use Rattle.pl_law_flights.proofs.Numbering.{anew_journaled, manager_journaled}
 use Rattle.pl_law_flights.proofs.OverLinks.{taken_out}
 use Rattle.pl_law_flights.proofs.Settling.{GrantsWell}
 use Rattle.pl_law_flights.proofs.Probing.{ticks_journaled}
@@ -193,6 +193,7 @@ module _ (manager : ManagerRule) (host : HostRule) (accounts : AccountsForFrames
         goes_journaled w counted told h.0 (record { edge = s; port = port }) from at may.0 may.1 may.2 host sends new turn
     by_case (PlayedFrame h input skip is turn) = plays_journaled host sends w h.0 input new (sound w counted) told (record { skip = skip; turn = turn })
     by_case (Asked h input is turn) = host_journaled host sends w h.0 _ _ new (sound w counted) told turn
+    by_case (BeganAnew is anew) = subst IsJournaled (sym anew) (anew_journaled w counted told given.epochs)
 
     pub happens_journaled : Happens Loose manager host w happens new → IsJournaled new
     happens_journaled does = by_case (happened Loose manager host w happens new does)
@@ -213,6 +214,7 @@ stepped_given manager host old new n given = record {
   come_first = given.come_first;
   members = given.members;
   trees = record { free = given.trees.free; each = given.trees.each; closed = given.trees.closed };
+  epochs = given.epochs;
 }
 
 -- each step

@@ -1,10 +1,10 @@
--- The manager hears a switch, and numbers addresses.
-use Rattle.std.proofs.Common.{◌≡◌, ℕ, List, [], ◌∷◌, ◌++◌, Option, None, Some, reverse, set, refl, sym, ◌∙◌, ap, subst}
+-- The manager hears a switch, and numbers addresses; it begins anew.
+use Rattle.std.proofs.Common.{◌≡◌, ℕ, ◌+◌, List, [], ◌∷◌, ◌++◌, Option, None, Some, reverse, set, refl, sym, ◌∙◌, ap, subst}
 use Rattle.std.specs.List.{fold, position}
 use Rattle.std.proofs.Math.ListN.{length-set}
 use Rattle.pl_layouts.specs.Equality.{same_switch}
 use Rattle.pl_journal.specs.declared.entry.Entry.{Entry}
-use Rattle.pl_journal.specs.declared.entry.Entry.TheVariants.{Registered}
+use Rattle.pl_journal.specs.declared.entry.Entry.TheVariants.{Registered, Restarted}
 use Rattle.pl_journal.specs.Lossy.{Needs}
 use Rattle.pl_node.specs.declared.acts.ManagerAct.{ManagerAct}
 use Rattle.pl_node.specs.declared.acts.ManagerAct.TheVariants.{Number, Say}
@@ -15,6 +15,7 @@ use Rattle.pl_wiring.specs.Plan.{Plan}
 use Rattle.pl_world.specs.Changes.{said_to}
 use Rattle.pl_world.specs.Flying.{IsCounted}
 use Rattle.pl_world.specs.OtherActs.{manager_act_done}
+use Rattle.pl_world.specs.Restarting.{CountsRestarts, manager_restarted}
 use Rattle.pl_world.specs.WorldRule.{ManagerTurn}
 use Rattle.pl_world.specs.Worlds.{WorldView}
 use Rattle.pl_world.proofs.Exports.{noted_owes, said_sound, Sound, sound, told_rest}
@@ -57,3 +58,16 @@ manager_journaled rule w s says items new counted told turn well =
     subst IsJournaled (sym turn.changed)
     (numbers_journaled turn.acts (record w { to_manager = set w.to_manager s items; manager = turn.after }) w.plan (reverse w.journal) refl refl well
     (record { balance = so.balance; rest = told_rest w.to_manager _ (length-set w.to_manager s _) so.rest }) told)
+
+-- it begins anew, and says the next number
+pub anew_journaled : (w : WorldView) → IsCounted w → IsJournaled w → CountsRestarts w → IsJournaled (manager_restarted w)
+anew_journaled w counted told epochs =
+    let so = sound w counted in
+    let n : ℕ = w.manager.epoch + 1 in
+    let e : Entry = Restarted n in
+    let past : List Entry = reverse w.journal in
+    let needs : Needs w.plan past e = ap (λ m. m + 1) epochs in
+    let t = note w.plan (place_in w.switches) past w.links w.attachments w.from_hosts w.out e 0
+    (nobody past w.from_hosts w.out (λ i. 0) (counts w past (λ i. 0) refl so.balance))
+    (λ g other. kept w.plan past e g tt) (record { there = λ x at is. is }) needs tt told.links_agree told.attachments_agree told in
+    subst (λ p. JournalSays w.plan (place_in w.switches) p w.links w.attachments w.from_hosts w.out) (sym (reverse_noted w.journal past e refl)) t

@@ -26,6 +26,7 @@ use Rattle.pl_queues.specs.Queues.{items_at}
 use Rattle.pl_world.specs.declared.item.Item.{Item}
 use Rattle.pl_world.specs.declared.item.Item.TheVariants.{Data}
 use Rattle.pl_world.specs.Changes.{out_of}
+use Rattle.pl_world.specs.Restarting.{CountsRestarts}
 use Rattle.pl_world.specs.Worlds.{WorldView}
 use Rattle.pl_law_copies.specs.Standing.{KnowTrees}
 use Rattle.pl_law_flights.specs.OnTheWay.{place_in}
@@ -59,7 +60,7 @@ AreMembersByThePast rule w = (h : ℕ) (before after : HostView) (acts : List Ho
     is_member (reverse w.journal) h (group_of (destination_of frame)) ≡ true
 
 -- Of a world and the one after a step: what switches know of places, addresses and hosts is so, what was known of places is known later, and first
--- addresses, numbers and frames of groups are as the lossy switch wants them, and switches know the trees of groups around them.
+-- addresses, numbers and frames of groups are as the lossy switch wants them, switches know the trees of groups around them, and the manager its epoch.
 pub record IsGroundForStep (manager : ManagerRule) (host : HostRule) (w new : WorldView) : Type 0 where
   pub on : StandsOn w
   pub hosts : StandsOnHosts w
@@ -69,3 +70,4 @@ pub record IsGroundForStep (manager : ManagerRule) (host : HostRule) (w new : Wo
   pub come_first : GroupsComeFirst w
   pub members : AreMembersByThePast host w
   pub trees : KnowTrees w
+  pub epochs : CountsRestarts w

@@ -1,7 +1,7 @@
--- A step of the world is one to what is due, where all of it is kept.
+-- A step of the world is one to what is due, where all of it is kept, or the manager begins anew.
 use Rattle.std.proofs.Common.{◌≡◌, None}
 use Rattle.pl_node.specs.HostInputs.{HostRule}
-use Rattle.pl_manager_rule.specs.ManagerRule.{manager_rule}
+use Rattle.pl_manager_rule.specs.WholeRule.{whole_rule}
 use Rattle.pl_switch_rule.specs.SwitchRule.{Loose}
 use Rattle.pl_switch_rule.proofs.Exports.{loose_steps_are_accounted}
 use Rattle.pl_world.specs.declared.event.Event.{Event}
@@ -9,20 +9,23 @@ use Rattle.pl_world.specs.Refusals.{refusal}
 use Rattle.pl_world.specs.WorldRule.{WorldStep}
 use Rattle.pl_world.specs.Worlds.{WorldView}
 use Rattle.pl_law_control_plane.specs.ControlPlanes.{control_plane}
-use Rattle.pl_law_control_plane.proofs.Exports.{whole_step}
+use Rattle.pl_law_control_plane.specs.Restarts.{OnPlane}
+use Rattle.pl_law_control_plane.proofs.Exports.{step_on_plane}
 use Rattle.pl_law_due.specs.Due.{due_plane}
-use Rattle.pl_law_due.specs.DueSteps.{DueStep}
+use Rattle.pl_law_due.specs.DueSteps.{OnDue}
 use Rattle.pl_law_due.specs.Gathering.{AreUnheard}
-use Rattle.pl_law_due.proofs.Exports.{as_whole, due_unheard, step_due}
+use Rattle.pl_law_due.proofs.Exports.{due_unheard, on_due}
 use Rattle.pl_law_invariant.specs.ControlInvariant.{ControlInvariant}
 
+-- what it is to the control plane
+pub world_on_plane : (host : HostRule) (old : WorldView) (event : Event) (new : WorldView) → ControlInvariant old → refusal old event ≡ None →
+    WorldStep Loose whole_rule host old event new → OnPlane Loose whole_rule (control_plane old) (control_plane new)
+world_on_plane host old event new before none step = step_on_plane Loose whole_rule host loose_steps_are_accounted old event new before.counted before.hosts none step
+
 pub world_due : (host : HostRule) (old : WorldView) (event : Event) (new : WorldView) → ControlInvariant old → refusal old event ≡ None →
-    WorldStep Loose manager_rule host old event new → DueStep Loose (due_plane (control_plane old)) (due_plane (control_plane new))
+    WorldStep Loose whole_rule host old event new → OnDue Loose (due_plane (control_plane old)) (due_plane (control_plane new))
 world_due host old event new before none step =
-    let f = control_plane old in let g = control_plane new in
-    let taken = whole_step Loose manager_rule host loose_steps_are_accounted old event new before.counted before.hosts none step in
-    let whole = as_whole Loose f g before.first taken.0 taken.1 in
-    step_due f g before.counted.formed.plan before.gathered whole.0 whole.1
+    on_due (control_plane old) (control_plane new) before.counted.formed.plan before.size before.gathered (world_on_plane host old event new before none step)
 
 -- of a silent switch nothing is due
 pub world_unheard : (w : WorldView) → ControlInvariant w → AreUnheard (due_plane (control_plane w))

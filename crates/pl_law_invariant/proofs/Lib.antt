@@ -1,9 +1,8 @@
 pub mod TellingPlaces
 pub mod Grounding
-pub mod KeepingControl
 pub mod LawfulRuns
-pub mod ControlInRuns
+pub mod KeepingControl
+pub mod GrantsInRuns
 pub mod DueInWorlds
-pub mod AddressesByEpochs
 pub mod ExecutionsKeepInvariant
 pub mod Exports

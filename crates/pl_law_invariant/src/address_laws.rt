@@ -2,7 +2,7 @@ ghost use Rattle.std.specs.Prelude.{◌≡◌, ◌≤◌, ◌<◌, ◌+◌, ℕ,
 ghost use Rattle.pl_pmac.specs.declared.pmac.Pmac.{Pmac};
 ghost use Rattle.pl_wiring.specs.Plan.{Plan};
 ghost use Rattle.pl_node.specs.SwitchViews.{SwitchView};
-ghost use Rattle.pl_manager_rule.specs.ManagerRule.{manager_rule};
+ghost use Rattle.pl_manager_rule.specs.WholeRule.{whole_rule};
 ghost use Rattle.pl_switch_rule.specs.SwitchRule.{Loose};
 ghost use Rattle.pl_world.specs.declared.limits.Limits.{Limits};
 ghost use Rattle.pl_world.specs.Booting.{CanBegin, booted};
@@ -11,10 +11,9 @@ ghost use Rattle.pl_world.specs.Worlds.{WorldView};
 ghost use Rattle.pl_law_addresses.specs.Addressed.{AreGrounded, IsGrounded, IsLiveNowhere};
 ghost use Rattle.pl_law_addresses.specs.EdgeAddresses.{is_live};
 ghost use Rattle.pl_law_addresses.specs.GrantedOnce.{StayUnlessFreed, times_freed, times_granted};
-ghost use Rattle.pl_law_addresses.specs.InOrder.{AddressesAreInOrder};
 ghost use Rattle.pl_law_addresses.specs.Standing.{StandsForNothing};
-ghost use Rattle.pl_law_invariant.specs.ControlInvariant.{ControlInvariant};
 ghost use Rattle.pl_law_epochs.specs.InOrder.{IsAddressed};
+ghost use Rattle.pl_law_invariant.specs.ControlInvariant.{ControlInvariant};
 
 use pl_node::HostLogic;
 
@@ -29,17 +28,11 @@ pub fn placed_edge_switches_stand_apart_in_every_run<H: HostLogic>()
     ensures { (plan : Plan) (limits : Limits) → CanBegin plan → AreGrounded H.rule plan limits }
 {}
 
-/// In every run addresses are in order: those of edge switches, those that are registered and those that
-/// wait to be told.
-pub fn addresses_are_in_order_in_every_run_from_boot<H: HostLogic>()
-    ensures { InEveryRun Loose manager_rule H.rule AddressesAreInOrder }
-{}
-
 /// In no run an address is granted again before it was freed: at each moment the journal has at most one entry
 /// more that grants it than entries that free it.
 pub fn no_address_is_granted_again_before_it_was_freed_in_any_run<H: HostLogic>()
     ensures { (plan : Plan) (limits : Limits) (moments : List Moment) (new : WorldView) (x : Pmac) → CanBegin plan →
-        WorldRun Loose manager_rule H.rule (booted plan limits) moments new → times_granted x new.journal ≤ times_freed x new.journal + 1 }
+        WorldRun Loose whole_rule H.rule (booted plan limits) moments new → times_granted x new.journal ≤ times_freed x new.journal + 1 }
 {}
 
 /// An address that is granted was nobody's: between two moments of a run at which it was freed equally often, it
@@ -47,7 +40,7 @@ pub fn no_address_is_granted_again_before_it_was_freed_in_any_run<H: HostLogic>(
 /// of it, and the fabric manager did not know it.
 pub fn no_address_is_granted_while_anything_stands_for_it_in_any_run<H: HostLogic>()
     ensures { (plan : Plan) (limits : Limits) (moments more : List Moment) (old new : WorldView) (x : Pmac) → CanBegin plan →
-        WorldRun Loose manager_rule H.rule (booted plan limits) moments old → WorldRun Loose manager_rule H.rule old more new →
+        WorldRun Loose whole_rule H.rule (booted plan limits) moments old → WorldRun Loose whole_rule H.rule old more new →
         times_granted x old.journal < times_granted x new.journal → times_freed x new.journal ≡ times_freed x old.journal →
         IsLiveNowhere old.switches x × StandsForNothing old x }
 {}
@@ -55,7 +48,7 @@ pub fn no_address_is_granted_while_anything_stands_for_it_in_any_run<H: HostLogi
 /// At no moment of a run two edge switches have one address for a host.
 pub fn no_two_edge_switches_grant_one_address_in_any_run<H: HostLogic>()
     ensures { (plan : Plan) (limits : Limits) (moments : List Moment) (new : WorldView) (s t : ℕ) (v u : SwitchView) (x : Pmac) → CanBegin plan →
-        WorldRun Loose manager_rule H.rule (booted plan limits) moments new → slice_get new.switches s ≡ Some v → slice_get new.switches t ≡ Some u →
+        WorldRun Loose whole_rule H.rule (booted plan limits) moments new → slice_get new.switches s ≡ Some v → slice_get new.switches t ≡ Some u →
         is_live v x ≡ true → is_live u x ≡ true → s ≡ t }
 {}
 
@@ -63,12 +56,12 @@ pub fn no_two_edge_switches_grant_one_address_in_any_run<H: HostLogic>()
 /// edge switch stays at its place.
 pub fn what_was_granted_stays_granted_in_every_run<H: HostLogic>()
     ensures { (plan : Plan) (limits : Limits) (moments more : List Moment) (old new : WorldView) → CanBegin plan →
-        WorldRun Loose manager_rule H.rule (booted plan limits) moments old → WorldRun Loose manager_rule H.rule old more new →
+        WorldRun Loose whole_rule H.rule (booted plan limits) moments old → WorldRun Loose whole_rule H.rule old more new →
         StayUnlessFreed old.switches old.journal new.switches new.journal }
 {}
 
 /// In every run addresses are in order by what the manager is going to treat, as they are in each of its epochs, and each trap that
 /// stands leads to an address of the same host that is somebody's.
 pub fn addresses_are_in_order_by_what_is_due_in_every_run<H: HostLogic>()
-    ensures { InEveryRun Loose manager_rule H.rule IsAddressed }
+    ensures { InEveryRun Loose whole_rule H.rule IsAddressed }
 {}

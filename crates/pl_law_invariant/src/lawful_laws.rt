@@ -1,8 +1,7 @@
 ghost use Rattle.std.specs.Prelude.{◌≡◌, ◌≤◌, ◌<◌, ◌+◌, List};
 ghost use Rattle.pl_pmac.specs.declared.pmac.Pmac.{Pmac};
 ghost use Rattle.pl_wiring.specs.Plan.{Plan};
-ghost use Rattle.pl_manager_rule.specs.ManagerRule.{manager_rule};
-ghost use Rattle.pl_manager_rule.specs.WholeRule.{IsFirst};
+ghost use Rattle.pl_manager_rule.specs.WholeRule.{whole_rule};
 ghost use Rattle.pl_switch_rule.specs.SwitchRule.{Loose};
 ghost use Rattle.pl_world.specs.declared.limits.Limits.{Limits};
 ghost use Rattle.pl_world.specs.Booting.{CanBegin, booted};
@@ -17,18 +16,14 @@ use pl_manager_rule::LawfulManager;
 use pl_node::HostLogic;
 use pl_switch_rule::LooseSwitch;
 
-/// Each run of lawful logic whose manager never began anew is one under the loose rule and the manager's of one
-/// epoch, and its manager did not begin anew then either. At the beginning it did not, so each run from there is one.
+/// Each run of lawful logic is one under the loose rule and the rule of this fabric manager.
 pub fn each_run_of_lawful_logic_is_a_run_of_the_rules<
     S: LooseSwitch,
     M: LawfulManager,
     H: HostLogic,
 >()
-    ensures begins { (plan : Plan) (limits : Limits) → IsFirst (booted plan limits).manager }
-    ensures runs { (old : WorldView) (moments : List Moment) (new : WorldView) → IsFirst old.manager →
-        WorldRun S.rule M.rule H.rule old moments new → WorldRun Loose manager_rule H.rule old moments new }
-    ensures stays { (old : WorldView) (moments : List Moment) (new : WorldView) → IsFirst old.manager →
-        WorldRun S.rule M.rule H.rule old moments new → IsFirst new.manager }
+    ensures { (old : WorldView) (moments : List Moment) (new : WorldView) → WorldRun S.rule M.rule H.rule old moments new →
+        WorldRun Loose whole_rule H.rule old moments new }
 {}
 
 /// So all of it holds at each moment of each run of lawful logic from the beginning.

@@ -8,7 +8,6 @@
 
 pub use address_laws::{
     addresses_are_in_order_by_what_is_due_in_every_run,
-    addresses_are_in_order_in_every_run_from_boot,
     no_address_is_granted_again_before_it_was_freed_in_any_run,
     no_address_is_granted_while_anything_stands_for_it_in_any_run,
     no_two_edge_switches_grant_one_address_in_any_run, placed_edge_switches_stand_apart,

@@ -103,7 +103,8 @@ module _ (plan : Plan) (s : ℕ) where
     ]
   ]
 
-  pub still_at : (gs : List Giving) (entries : List Entry) (n h : ℕ) (at : EdgePort) (live : Bool) → AllByRecursion (IsFor n h at live) gs → IsAt entries n h at live →
+  pub still_at : (gs : List Giving) (entries : List Entry) (n h : ℕ) (at : EdgePort) (live : Bool) → AllByRecursion (IsFor n h at live) gs →
+      IsAt entries n h at live →
       IsAt (all_written plan s entries gs) n h at live
   still_at [] entries n h at live all is = record { held = is.held; there = is.there; is_so = is.is_so }
   still_at (g ∷ gs) entries n h at live all is =
@@ -120,7 +121,8 @@ module _ (plan : Plan) (s : ℕ) where
       }
 
   pub now_at : (gs : List Giving) (entries : List Entry) (g : Giving) (h : ℕ) → IsOneOf gs g → host_of plan g.mac ≡ Some h →
-      AllByRecursion (IsFor (pmac_number g.pmac) h (at_port s g.pmac.port) true) gs → IsAt (all_written plan s entries gs) (pmac_number g.pmac) h (at_port s g.pmac.port) true
+      AllByRecursion (IsFor (pmac_number g.pmac) h (at_port s g.pmac.port) true) gs →
+      IsAt (all_written plan s entries gs) (pmac_number g.pmac) h (at_port s g.pmac.port) true
   now_at [] entries g h one of all = absurd one
   now_at (f ∷ gs) entries g h one of all = elim one [
     | inl here ↦
@@ -136,7 +138,8 @@ module _ (plan : Plan) (s : ℕ) where
     pub is_last : granted_at entries h (at_port t p) ≡ Some last
     pub good : Q last
 
-  last_entry : (entries : List Entry) (x : Pmac) (o : Option ℕ) (Q : Pmac → Type 0) (t h p : ℕ) → (o ≡ Some h → (s ≡ t) × (x.port ≡ p) → Q x) → HasLast entries Q t h p →
+  last_entry : (entries : List Entry) (x : Pmac) (o : Option ℕ) (Q : Pmac → Type 0) (t h p : ℕ) → (o ≡ Some h → (s ≡ t) × (x.port ≡ p) → Q x) →
+      HasLast entries Q t h p →
       HasLast (entry_for s entries x o) Q t h p
   last_entry entries x None Q t h p new is = record { last = is.last; is_last = is.is_last; good = is.good }
   last_entry entries x (Some m) Q t h p new is = elim (cases_Bool ((m == h) && same_edge_port (at_port s x.port) (at_port t p))) [
@@ -184,7 +187,8 @@ module _ (plan : Plan) (s : ℕ) where
     | inl here ↦
         last_stays gs (entry_for s entries f.pmac (host_of plan f.mac)) Q s h g.pmac.port all.1
         (subst (λ (q : Giving). HasLast (entry_for s entries f.pmac (host_of plan f.mac)) Q s h q.pmac.port) here
-        (last_first entries f.pmac (host_of plan f.mac) Q h (ap (λ (q : Giving). host_of plan q.mac) here ∙ of) (subst (λ (q : Giving). Q q.pmac) (sym here) good)))
+        (last_first entries f.pmac (host_of plan f.mac) Q h (ap (λ (q : Giving). host_of plan q.mac) here ∙ of)
+        (subst (λ (q : Giving). Q q.pmac) (sym here) good)))
   ]
 
   -- where hosts have stood, and the highest number, is as before
@@ -202,7 +206,8 @@ module _ (plan : Plan) (s : ℕ) where
   number_entry entries x (Some m) n other =
       cond-false (pmac_number x == n) None (number entries n) (false_from_ne_true (pmac_number x == n) (λ is. other (eqb-true (pmac_number x) n is)))
 
-  pub other_numbers : (gs : List Giving) (entries : List Entry) (n : ℕ) → AllByRecursion (λ g. pmac_number g.pmac ≡ n → ⊥) gs → number (all_written plan s entries gs) n ≡ number entries n
+  pub other_numbers : (gs : List Giving) (entries : List Entry) (n : ℕ) → AllByRecursion (λ g. pmac_number g.pmac ≡ n → ⊥) gs →
+      number (all_written plan s entries gs) n ≡ number entries n
   other_numbers [] entries n all = refl
   other_numbers (g ∷ gs) entries n all =
       other_numbers gs (entry_for s entries g.pmac (host_of plan g.mac)) n all.1 ∙ number_entry entries g.pmac (host_of plan g.mac) n all.0
@@ -220,39 +225,17 @@ module _ (plan : Plan) (s : ℕ) where
   was_number (g ∷ gs) entries n m is =
       was_entry entries g.pmac (host_of plan g.mac) n m (was_number gs (entry_for s entries g.pmac (host_of plan g.mac)) n m is)
 
-  none_or_number : (entries later : List Entry) (n : ℕ) → ((m : ℕ) → number later n ≡ Some m → number entries n ≡ Some m) → number entries n ≡ None → number later n ≡ None
-  none_or_number entries later n was none = by (number later n) refl
-    where
-      by : (o : Option ℕ) → number later n ≡ o → o ≡ None
-      by None is = refl
-      by (Some m) is = absurd (none-some m (sym none ∙ was m is))
-
-  pub no_number : (gs : List Giving) (entries : List Entry) (n : ℕ) → number entries n ≡ None → number (all_written plan s entries gs) n ≡ None
-  no_number gs entries n none = none_or_number entries (all_written plan s entries gs) n (λ m is. was_number gs entries n m is) none
-
-  reset_entry : (entries : List Entry) (x : Pmac) (o : Option ℕ) (h : ℕ) → o ≡ Some h → number (entry_for s entries x o) (pmac_number x) ≡ None
-  reset_entry entries x None h is = absurd (none-some h is)
-  reset_entry entries x (Some m) h is = cond-true (pmac_number x == pmac_number x) None (number entries (pmac_number x)) (eq-eqb (pmac_number x) (pmac_number x) refl)
-
-  pub given_number : (gs : List Giving) (entries : List Entry) (g : Giving) (h : ℕ) → IsOneOf gs g → host_of plan g.mac ≡ Some h → number (all_written plan s entries gs) (pmac_number g.pmac) ≡ None
-  given_number [] entries g h one of = absurd one
-  given_number (f ∷ gs) entries g h one of = elim one [
-    | inr later ↦ given_number gs (entry_for s entries f.pmac (host_of plan f.mac)) g h later of
-    | inl here ↦
-        no_number gs (entry_for s entries f.pmac (host_of plan f.mac)) (pmac_number g.pmac)
-        (subst (λ (q : Giving). number (entry_for s entries f.pmac (host_of plan f.mac)) (pmac_number q.pmac) ≡ None) here
-        (reset_entry entries f.pmac (host_of plan f.mac) h (ap (λ (q : Giving). host_of plan q.mac) here ∙ of)))
-  ]
-
   -- an address that was granted still has a holder
-  holder_entry : (entries : List Entry) (x : Pmac) (o : Option ℕ) (n : ℕ) → (h : ℕ) × (holder entries n ≡ Some h) → (h : ℕ) × (holder (entry_for s entries x o) n ≡ Some h)
+  holder_entry : (entries : List Entry) (x : Pmac) (o : Option ℕ) (n : ℕ) → (h : ℕ) × (holder entries n ≡ Some h) →
+      (h : ℕ) × (holder (entry_for s entries x o) n ≡ Some h)
   holder_entry entries x None n is = is
   holder_entry entries x (Some m) n is = elim (cases_Bool (pmac_number x == n)) [
     | inl same ↦ (m, cond-true (pmac_number x == n) (Some m) (holder entries n) same)
     | inr other ↦ (is.0, cond-false (pmac_number x == n) (Some m) (holder entries n) other ∙ is.1)
   ]
 
-  pub some_holder : (gs : List Giving) (entries : List Entry) (n : ℕ) → (h : ℕ) × (holder entries n ≡ Some h) → (h : ℕ) × (holder (all_written plan s entries gs) n ≡ Some h)
+  pub some_holder : (gs : List Giving) (entries : List Entry) (n : ℕ) → (h : ℕ) × (holder entries n ≡ Some h) →
+      (h : ℕ) × (holder (all_written plan s entries gs) n ≡ Some h)
   some_holder [] entries n is = is
   some_holder (g ∷ gs) entries n is = some_holder gs (entry_for s entries g.pmac (host_of plan g.mac)) n (holder_entry entries g.pmac (host_of plan g.mac) n is)
 
@@ -263,18 +246,21 @@ module _ (plan : Plan) (s : ℕ) where
       let rest = alike gs (entry_for s entries g.pmac (host_of plan g.mac)) in
       record { stood = λ h there. rest.stood h there ∙ one.stood h there; most = rest.most ∙ one.most }
 
-  backed_entry : (switches : List SwitchView) (entries : List Entry) (x : Pmac) (o : Option ℕ) → IsGrantedThere switches x s x.port → AllByRecursion (IsBacked switches) entries →
+  backed_entry : (switches : List SwitchView) (entries : List Entry) (x : Pmac) (o : Option ℕ) → IsGrantedThere switches x s x.port →
+      AllByRecursion (IsBacked switches) entries →
       AllByRecursion (IsBacked switches) (entry_for s entries x o)
   backed_entry switches entries x None is all = all
   backed_entry switches entries x (Some m) is all = (is, all)
 
-  pub all_backed : (switches : List SwitchView) (gs : List Giving) (entries : List Entry) → AllByRecursion (λ g. IsGrantedThere switches g.pmac s g.pmac.port) gs →
+  pub all_backed : (switches : List SwitchView) (gs : List Giving) (entries : List Entry) →
+      AllByRecursion (λ g. IsGrantedThere switches g.pmac s g.pmac.port) gs →
       AllByRecursion (IsBacked switches) entries → AllByRecursion (IsBacked switches) (all_written plan s entries gs)
   all_backed switches [] entries new all = all
   all_backed switches (g ∷ gs) entries new all =
       all_backed switches gs (entry_for s entries g.pmac (host_of plan g.mac)) new.1 (backed_entry switches entries g.pmac (host_of plan g.mac) new.0 all)
 
-pub backed_later : (before after : List SwitchView) → ((x : Pmac) (s port : ℕ) → IsGrantedThere before x s port → IsGrantedThere after x s port) → (entries : List Entry) →
+pub backed_later : (before after : List SwitchView) → ((x : Pmac) (s port : ℕ) → IsGrantedThere before x s port → IsGrantedThere after x s port) →
+    (entries : List Entry) →
     AllByRecursion (IsBacked before) entries → AllByRecursion (IsBacked after) entries
 backed_later before after more [] all = tt
 backed_later before after more (Granted x h e p ∷ entries) all = (more x e.0 p all.0, backed_later before after more entries all.1)
@@ -289,7 +275,8 @@ pub record IsHeldSomewhere (switches : List SwitchView) (n : ℕ) : Type 0 where
   pub same : pmac_number pmac ≡ n
   pub there : IsGrantedThere switches pmac switch port
 
-pub held_somewhere : (switches : List SwitchView) (entries : List Entry) (n h : ℕ) → AllByRecursion (IsBacked switches) entries → holder entries n ≡ Some h → IsHeldSomewhere switches n
+pub held_somewhere : (switches : List SwitchView) (entries : List Entry) (n h : ℕ) → AllByRecursion (IsBacked switches) entries → holder entries n ≡ Some h →
+    IsHeldSomewhere switches n
 held_somewhere switches [] n h all is = absurd (none-some h is)
 held_somewhere switches (Granted x g e p ∷ entries) n h all is = elim (cases_Bool (pmac_number x == n)) [
   | inl same ↦ record { pmac = x; switch = e.0; port = p; same = eqb-true (pmac_number x) n same; there = all.0 }
@@ -304,7 +291,8 @@ IsAlike x s entry = Unit {0}
 
 pub of_edge : (entries : List Entry) (x : Pmac) (s : ℕ) → AllByRecursion (IsAlike x s) entries → is_of_edge entries x s ≡ true
 of_edge [] x s all = refl
-of_edge (Granted y h e p ∷ entries) x s all = and_from (are_alike (same_pod_and_position x y) (e.0 == s)) (is_of_edge entries x s) all.0 (of_edge entries x s all.1)
+of_edge (Granted y h e p ∷ entries) x s all = and_from (are_alike (same_pod_and_position x y) (e.0 == s)) (is_of_edge entries x s) all.0
+    (of_edge entries x s all.1)
 of_edge (entry ∷ entries) x s all = of_edge entries x s all.1
 
 -- the address of this number is the last of its port
@@ -312,14 +300,17 @@ abbrev pub IsLast : ℕ → Entry → Type 0
 IsLast n (Granted y h e p) = pmac_number y ≡ n → y.vmid ≡ 65535
 IsLast n entry = Unit {0}
 
-pub spent_there : (entries : List Entry) (n : ℕ) (there : EdgePort) → AllByRecursion (IsLast n) entries → edge_port entries n ≡ Some there → is_spent entries there ≡ true
+pub spent_there : (entries : List Entry) (n : ℕ) (there : EdgePort) → AllByRecursion (IsLast n) entries → edge_port entries n ≡ Some there →
+    is_spent entries there ≡ true
 spent_there [] n there all is = absurd (none-some there is)
 spent_there (Granted y h e p ∷ entries) n there all is = elim (cases_Bool (pmac_number y == n)) [
   | inl same ↦
       let last = all.0 (eqb-true (pmac_number y) n same) in
-      let at : at_port e.0 p ≡ there = same_Some (at_port e.0 p) there (sym (cond-true (pmac_number y == n) (Some (at_port e.0 p)) (edge_port entries n) same) ∙ is) in
+      let at : at_port e.0 p ≡ there = same_Some (at_port e.0 p) there
+      (sym (cond-true (pmac_number y == n) (Some (at_port e.0 p)) (edge_port entries n) same) ∙ is) in
       or_left ((y.vmid == 65535) && same_edge_port (at_port e.0 p) there) (is_spent entries there)
-      (and_from (y.vmid == 65535) (same_edge_port (at_port e.0 p) there) (eq-eqb y.vmid 65535 last) (subst (λ (q : EdgePort). same_edge_port (at_port e.0 p) q ≡ true) at (edge_port_itself (at_port e.0 p))))
+      (and_from (y.vmid == 65535) (same_edge_port (at_port e.0 p) there) (eq-eqb y.vmid 65535 last)
+      (subst (λ (q : EdgePort). same_edge_port (at_port e.0 p) q ≡ true) at (edge_port_itself (at_port e.0 p))))
   | inr other ↦
       or_right ((y.vmid == 65535) && same_edge_port (at_port e.0 p) there) (is_spent entries there)
       (spent_there entries n there all.1 (sym (cond-false (pmac_number y == n) (Some (at_port e.0 p)) (edge_port entries n) other) ∙ is))

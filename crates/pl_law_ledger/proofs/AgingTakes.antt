@@ -35,7 +35,6 @@ module _ (P : ℕ → Mac → Type 0) where
           held = sym (held_still was.grant.held) ∙ ap (λ (q : Grant). is_held q.held) was.same;
         };
     there = λ x g is. (older_grant g, granted_older v x ∙ ap (option_map older_grant) is);
-    told = tt;
     frees_none = tt;
     none = refl;
     listed = record {
@@ -58,11 +57,13 @@ module _ (P : ℕ → Mac → Type 0) where
   }
 
   -- one rests
-  rest_quiets : (v : SwitchView) → IsListed v → (x : Pmac) (g : Grant) (number : ℕ) → granted v x ≡ Some g → is_held g.held ≡ true → Quiets P v (comes_to_rest v x g number)
+  rest_quiets : (v : SwitchView) → IsListed v → (x : Pmac) (g : Grant) (number : ℕ) → granted v x ≡ Some g → is_held g.held ≡ true →
+      Quiets P v (comes_to_rest v x g number)
   rest_quiets v listed x g number was held =
       let here = (granted_parts v x g was).0 in
-      unused_quiets P v x g (record g { held = Resting number }) here (local_settled v x here) (granted_within v x g was listed.many) was refl held refl refl listed
-      (comes_to_rest v x g number).view (act.Tell (tell.Aged x number) ∷ []) refl refl (tt, tt) (tt, tt)
+      unused_quiets P v x g (record g { held = Resting number }) here (local_settled v x here)
+      (granted_within v x g was listed.many) was refl held refl refl listed
+      (comes_to_rest v x g number).view (act.Tell (tell.Aged x number) ∷ []) refl refl (tt, tt)
 
   use_quiets : (v : SwitchView) → IsListed v → (x : Pmac) (g : Grant) → granted v x ≡ Some g → (h : AddressUse) → g.held ≡ h → Quiets P v (ages_out_of v x g h)
   use_quiets v listed x g was (InUse idle) is = rest_quiets v listed x g 0 was (ap is_held is)
@@ -88,6 +89,7 @@ module _ (P : ℕ → Mac → Type 0) where
       let u : SwitchView = (tells_neighbours v).view in
       let older = older_quiets u told.listed in
       let w : SwitchView = with_older u in
-      let probed = quiets_then P u (does w []) (λ z. does z (probes_idle z)) older (quiets_aside P w (does w (probes_idle w)) older.listed (probes_are_aside w)) in
+      let probed = quiets_then P u (does w []) (λ z. does z (probes_idle z)) older
+      (quiets_aside P w (does w (probes_idle w)) older.listed (probes_are_aside w)) in
       quiets_then P v (tells_neighbours v) ages told
       (quiets_then P u (does w [] ▹ (λ z. does z (probes_idle z))) (λ z. all_age_out (to_rest z) z) probed (all_quiets (to_rest w) w probed.listed))

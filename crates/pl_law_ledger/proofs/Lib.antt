@@ -8,10 +8,13 @@ pub mod StepTakes
 pub mod GrantsWritten
 pub mod AddressTables
 pub mod StepsKeepLedger
+pub mod TellsNumbers
 pub mod Numbering
 pub mod TurnsKeepLedger
 pub mod EventsKeepLedger
 pub mod LedgerAtFirst
 pub mod LedgerInRuns
+pub mod Rising
+pub mod HoldsInRuns
 pub mod Leading
 pub mod Exports

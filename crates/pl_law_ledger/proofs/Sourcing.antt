@@ -23,17 +23,16 @@ use Rattle.pl_switch_rule.specs.Granting.{address_at_port, behind, forgets, free
 use Rattle.pl_switch_rule.specs.Levels.{changes_to, has_become_placed, settles_in}
 use Rattle.pl_switch_rule.specs.Telling.{changes_told}
 use Rattle.pl_switch_rule.proofs.Exports.{all_range}
-use Rattle.pl_law_phases.proofs.Exports.{in_use_for}
 use Rattle.pl_law_addresses.specs.EdgeAddresses.{is_settled}
-use Rattle.pl_law_addresses.proofs.Exports.{aside_does, changes_silent, granted_here, IsInUse, local_here, used_is}
-use Rattle.pl_law_ledger.proofs.Giving.{AreToldOf, FreesNone, givings}
+use Rattle.pl_law_addresses.proofs.Exports.{aside_does, changes_silent, granted_here, in_use_for, IsInUse, local_here, used_is}
+use Rattle.pl_law_ledger.proofs.Giving.{FreesNone, givings}
 use Rattle.pl_law_ledger.proofs.Takes.{AreOf, Takes, aside_takes, changed_takes, grants_next_takes, put_takes, rests_takes, takes_either, takes_then}
-use Rattle.pl_law_ledger.proofs.Using.{IsUsedAt}
 use Rattle.pl_layouts.specs.Equality.{is_ip}
 
 module _ (P : ℕ → Mac → Type 0) where
   -- an address in use is used, and maybe its IPv4 address is told
-  module _ (v : SwitchView) (port vmid : ℕ) (mac : Mac) (settled : is_settled v.place ≡ true) (within : port < v.k) (u : IsInUse (grants_at v port) mac vmid) where
+  module _ (v : SwitchView) (port vmid : ℕ) (mac : Mac) (settled : is_settled v.place ≡ true) (within : port < v.k)
+      (u : IsInUse (grants_at v port) mac vmid) where
     abbrev old : Pmac
     old = address_at_port v port vmid
 
@@ -47,14 +46,13 @@ module _ (P : ℕ → Mac → Type 0) where
     held = ap is_held (in_use_for u.grant.held u.used).1
 
     used_takes : (known : Grant) → known.amac ≡ u.grant.amac → known.held ≡ InUse 0 → (acts : List Act) → givings acts ≡ [] → AllByRecursion FreesNone acts →
-        AreToldOf (λ y. (m : Mac) × IsUsedAt v y m) acts →
         Takes P v (record { view = record (with_grants v port (set (grants_at v port) (vmid - 1) known)) { used = behind old v.used }; acts = acts })
-    used_takes known same used acts none frees told =
+    used_takes known same used acts none frees =
         changed_takes P v old u.grant known here settled within was same held (ap is_held used) (ap is_in_use used ∙ sym u.used)
-        (record (with_grants v port (set (grants_at v port) (vmid - 1) known)) { used = behind old v.used }) acts refl none frees told
+        (record (with_grants v port (set (grants_at v port) (vmid - 1) known)) { used = behind old v.used }) acts refl none frees
 
     again_takes : Takes P v (rests (uses v old u.grant))
-    again_takes = used_takes (record u.grant { held = InUse 0 }) refl refl [] refl tt tt
+    again_takes = used_takes (record u.grant { held = InUse 0 }) refl refl [] refl tt
 
     known_takes : (ip : Option Ip4) → Takes P v (learns_ip v old (Some u.grant) ip)
     known_takes None = again_takes
@@ -62,8 +60,7 @@ module _ (P : ℕ → Mac → Type 0) where
         let said = act.Tell (tell.Learned old u.grant.amac (Some ip)) ∷ [] in
         takes_either P v (is_ip u.grant.ip ip) (rests (uses v old u.grant)) (record { view = uses v old (record u.grant { ip = Some ip }); acts = said })
         (λ same. again_takes)
-        (λ new. used_takes (record u.grant { ip = Some ip; held = InUse 0 }) refl refl said refl (tt, tt)
-        ((u.grant.amac, record { grant = u.grant; found = was; used = u.used; to = refl }), tt))
+        (λ new. used_takes (record u.grant { ip = Some ip; held = InUse 0 }) refl refl said refl (tt, tt))
 
   -- a source at a port of a placed edge switch
   source_takes : (v : SwitchView) (port : ℕ) (mac : Mac) (ip : Option Ip4) → is_settled v.place ≡ true → port < v.k → P port mac → (o : Option ℕ) →
@@ -81,10 +78,12 @@ module _ (P : ℕ → Mac → Type 0) where
   remembers_takes : (v : SwitchView) (port : ℕ) (mac : Mac) (ip : Option Ip4) → P port mac → Takes P v (remembers v port mac ip)
   remembers_takes v port mac ip of_it =
       put_takes P v port (Some (record { amac = mac; ip = or_else ip (remembered_ip (remembered_at v port) mac) }))
-      (λ source is. subst (λ (s : Source). P port s.amac) (same_Some (record { amac = mac; ip = or_else ip (remembered_ip (remembered_at v port) mac) }) source is) of_it)
+      (λ source is. subst (λ (s : Source). P port s.amac) (same_Some
+      (record { amac = mac; ip = or_else ip (remembered_ip (remembered_at v port) mac) }) source is) of_it)
 
   -- the source of a frame that a host sends
-  pub learns_takes : (v : SwitchView) (port : ℕ) (frame : List ℕ) → v.place.level ≡ Some 0 → port < v.k → P port (source_of frame) → Takes P v (learns_source v port frame)
+  pub learns_takes : (v : SwitchView) (port : ℕ) (frame : List ℕ) → v.place.level ≡ Some 0 → port < v.k → P port (source_of frame) →
+      Takes P v (learns_source v port frame)
   learns_takes v port frame edge within of_it =
       takes_either P v (is_placed v.place)
       (grants_or_learns v port (source_of frame) (sender_ip frame) (in_use (grants_at v port) (source_of frame)))
@@ -94,12 +93,14 @@ module _ (P : ℕ → Mac → Type 0) where
       (λ unplaced. remembers_takes v port (source_of frame) (sender_ip frame) of_it)
 
   -- What a port remembers is granted: the part needs that it is of the port, so it is joined with its premise.
-  given_source : (v : SwitchView) (port : ℕ) (o : Option Source) → remembered_at v port ≡ o → is_settled v.place ≡ true → port < v.k → ((s : Source) → o ≡ Some s → P port s.amac) →
+  given_source : (v : SwitchView) (port : ℕ) (o : Option Source) → remembered_at v port ≡ o → is_settled v.place ≡ true → port < v.k →
+      ((s : Source) → o ≡ Some s → P port s.amac) →
       Takes P v (grants_source v port o)
   given_source v port None is settled within are = rests_takes P v
   given_source v port (Some s) is settled within are = grants_takes v port s.amac s.ip settled within (are s refl)
 
-  pub remembered_takes : (ports : List ℕ) (v : SwitchView) → is_settled v.place ≡ true → AllByRecursion (λ port. port < v.k) ports → AreOf P v → Takes P v (grants_remembered ports v)
+  pub remembered_takes : (ports : List ℕ) (v : SwitchView) → is_settled v.place ≡ true → AllByRecursion (λ port. port < v.k) ports → AreOf P v →
+      Takes P v (grants_remembered ports v)
   unfolding grants_remembered
   remembered_takes [] v settled within are = rests_takes P v
   remembered_takes (port ∷ ports) v settled within are =

@@ -1,5 +1,6 @@
 -- What each row of a switch grants and remembers.
 use Rattle.std.proofs.Common.{◌≡◌, ◌⊎◌, ◌<◌, ◌≤◌, ◌||◌, ℕ, nat_lt, Bool, true, false, cond, List, [], ◌∷◌, length, Option, Some, None, Result, Ok, Err, get_or, refl, sym, ap, subst, ◌∙◌, inl, inr}
+use Rattle.std.specs.Option.{option_map}
 use Rattle.std.proofs.lemmas.Bool.{cases_Bool, cond_both, false≢true}
 use Rattle.std.proofs.lemmas.Option.{none-some}
 use Rattle.pl_frame.specs.declared.address.Ip4.{Ip4}
@@ -36,15 +37,14 @@ use Rattle.pl_switch_rule.specs.Messages.{answer_frame, becomes_free, flood_fram
 use Rattle.pl_switch_rule.specs.Positions.{after_vote}
 use Rattle.pl_switch_rule.specs.SwitchRule.{comes_from_switch, control_comes, data_comes, hears_control, switch_step}
 use Rattle.pl_switch_rule.proofs.Exports.{granted_parts, none_granted}
-use Rattle.pl_law_addresses.specs.EdgeAddresses.{is_settled}
+use Rattle.pl_law_addresses.specs.EdgeAddresses.{is_held as is_held_there, is_live, is_settled}
 use Rattle.pl_law_addresses.specs.FreeVmids.{AreFreeVmids}
-use Rattle.pl_law_addresses.specs.Registries.{Registry}
-use Rattle.pl_law_addresses.proofs.Exports.{aside_does, edge_placing, floods_aside, forgets_members_aside, granted_within, IsPlacing, keeps_changes, LeavesAddresses, local_settled, makes_aside, message_placing, pod_placing, probes_aside, proposal_aside, switch_frame_aside, takes_in_aside, told_by, vote_placing}
+use Rattle.pl_law_addresses.proofs.Exports.{aside_does, edge_placing, floods_aside, forgets_members_aside, granted_within, IsPlacing, keeps_changes, LeavesAddresses, local_settled, makes_aside, message_placing, pod_placing, probes_aside, proposal_aside, switch_frame_aside, takes_in_aside, vote_placing}
 use Rattle.pl_law_ledger.proofs.AgingTakes.{tick_quiets}
-use Rattle.pl_law_ledger.proofs.Giving.{all_weaker, givings, words_weaker}
+use Rattle.pl_law_ledger.proofs.Giving.{IsFresh, all_weaker, givings}
 use Rattle.pl_law_ledger.proofs.Greeting.{hello_enters}
 use Rattle.pl_law_ledger.proofs.Sourcing.{changes_takes, learns_takes}
-use Rattle.pl_law_ledger.proofs.Takes.{AreOf, Enters, IsListed, IsToldWell, Quiets, Takes, WasGranted, aside_takes, enters_of, enters_of_quiets, quiets_aside, quiets_then, rests_takes, takes_either, takes_then, unused_quiets}
+use Rattle.pl_law_ledger.proofs.Takes.{AreOf, Enters, IsListed, Quiets, Takes, WasGranted, aside_takes, enters_of, enters_of_quiets, quiets_aside, quiets_then, rests_takes, takes_either, takes_then, unused_quiets}
 use Rattle.pl_law_ledger.proofs.Using.{IsFirstThere, IsUsedAt, same_used}
 
 -- What is needed of what comes: a frame of a host comes at a port where its host has stood.
@@ -62,11 +62,8 @@ pub record FreesOne (v : SwitchView) (s : SwitchStep) : Type 0 where
   pub is : s ≡ does (becomes_free v pmac grant) (act.Free pmac ∷ [])
 
 -- what comes of a change of the place leaves it so
-no_registry : Registry
-no_registry = record { at = λ x. None; recall_at = λ x. None; aged_at = λ x. false; newest_of = λ mac. None; ip_at = λ x. None; count = 0 }
-
 settling_place : (v w : SwitchView) → (changes_to v w).view.place ≡ w.place
-settling_place v w = (keeps_changes (λ mac. None) no_registry None [] v w).place
+settling_place v w = (keeps_changes (λ mac. None) v w).place
 
 module _ (P : ℕ → Mac → Type 0) where
   -- a change of the place before a part
@@ -75,8 +72,7 @@ module _ (P : ℕ → Mac → Type 0) where
     given = λ l are. b.given listed_then (λ port source is. are port source (ap (λ (ss : List (Option Source)). get_or ss port None) (sym p.remembered) ∙ is));
     covers = λ l x g is. elim (b.covers listed_then x g is) [ inl before ↦ inl (before_that x g before) | inr now ↦ inr now ];
     there = λ l x g is. let now = after_that x g is in b.there listed_then x now.0 now.1;
-    told = λ l. words_weaker (IsToldWell w (givings s.acts)) (IsToldWell v (givings s.acts))
-        (λ x it. (it.0, elim it.1 [ inl used ↦ inl (used_before x it.0 used) | inr one ↦ inr one ])) (told_by s.acts) (b.told listed_then);
+    fresh = λ l. all_weaker (IsFresh w) (IsFresh v) (λ f dead. dead_before f.pmac dead) (givings s.acts) (b.fresh listed_then);
     frees_none = b.frees_none;
     listed = λ l. b.listed listed_then;
     few = λ l few. b.few listed_then (λ port. subst (λ (gs : List (List Grant)). length (get_or gs port []) ≤ 65535) (sym p.grants) (few port));
@@ -98,7 +94,8 @@ module _ (P : ℕ → Mac → Type 0) where
         many_freed = ap (λ (fs : List (List ℕ)). length fs) p.freed ∙ listed.many_freed ∙ sym p.k;
         free = λ port.
             subst (λ (fs : List ℕ). AreFreeVmids (grants_at w port) fs) (ap (λ (fs : List (List ℕ)). get_or fs port []) (sym p.freed))
-            (subst (λ (gs : List Grant). AreFreeVmids gs (freed_at v port)) (ap (λ (gs : List (List Grant)). get_or gs port []) (sym p.grants)) (listed.free port));
+            (subst (λ (gs : List Grant). AreFreeVmids gs (freed_at v port)) (ap (λ (gs : List (List Grant)). get_or gs port []) (sym p.grants))
+            (listed.free port));
         empty = λ unsettled port. elim (cases_Bool (is_settled v.place)) [
           | inl settled ↦ absurd (false≢true (sym unsettled ∙ ap (λ (q : Place). is_settled q) (p.place settled) ∙ settled))
           | inr never ↦ ap (λ (gs : List (List Grant)). get_or gs port []) p.grants ∙ listed.empty never port
@@ -114,7 +111,8 @@ module _ (P : ℕ → Mac → Type 0) where
           held = is.held;
         }
         | inr never ↦
-            absurd (none-some is.grant (sym (none_granted w x (ap (λ (gs : List (List Grant)). get_or gs x.port []) p.grants ∙ listed.empty never x.port)) ∙ is.found))
+            absurd (none-some is.grant (sym (none_granted w x (ap (λ (gs : List (List Grant)). get_or gs x.port []) p.grants ∙ listed.empty never x.port))
+            ∙ is.found))
       ]
 
       after_that : (x : Pmac) (g : Grant) → granted v x ≡ Some g → (h : Grant) × (granted w x ≡ Some h)
@@ -123,11 +121,18 @@ module _ (P : ℕ → Mac → Type 0) where
         | inr never ↦ absurd (none-some g (sym (none_granted v x (listed.empty never x.port)) ∙ is))
       ]
 
+      dead_before : (x : Pmac) → is_live w x ≡ false → is_live v x ≡ false
+      dead_before x dead = elim (cases_Bool (is_settled v.place)) [
+        | inl settled ↦ sym (λ i. is_live (record v { place = p.place settled i; grants = p.grants i }) x) ∙ dead
+        | inr never ↦ ap (λ (o : Option Grant). is_held_there (option_map (λ (g : Grant). g.held) o)) (none_granted v x (listed.empty never x.port))
+      ]
+
       used_before : (x : Pmac) (mac : Mac) → IsUsedAt w x mac → IsUsedAt v x mac
       used_before x mac is = elim (cases_Bool (is_settled v.place)) [
         | inl settled ↦ same_used w v (sym (p.place settled)) (sym p.grants) x mac is
         | inr never ↦
-            absurd (none-some is.grant (sym (none_granted w x (ap (λ (gs : List (List Grant)). get_or gs x.port []) p.grants ∙ listed.empty never x.port)) ∙ is.found))
+            absurd (none-some is.grant (sym (none_granted w x (ap (λ (gs : List (List Grant)). get_or gs x.port []) p.grants ∙ listed.empty never x.port))
+            ∙ is.found))
       ]
 
       used_then : (x : Pmac) (mac : Mac) → IsUsedAt v x mac → IsUsedAt w x mac
@@ -148,7 +153,8 @@ module _ (P : ℕ → Mac → Type 0) where
         let learnt = (finds_host v port ▹ (λ u. learns_source u port frame)) in
         let found = changing_takes v w (edge_placing v port) listed are in
         let after : SwitchView = (finds_host v port).view in
-        takes_either P v (is_known v.place.level 1 || is_known v.place.level 2) (does v (act.Drop cause.NotPlaced ∷ [])) (learnt ▹ takes_in_or_spent choose port frame)
+        takes_either P v (is_known v.place.level 1 || is_known v.place.level 2) (does v (act.Drop cause.NotPlaced ∷ []))
+        (learnt ▹ takes_in_or_spent choose port frame)
         (λ h. aside_takes P v (does v (act.Drop cause.NotPlaced ∷ [])) (aside_does v (act.Drop cause.NotPlaced ∷ []) (tt, tt)))
         (λ h. takes_then P v learnt (takes_in_or_spent choose port frame)
         (takes_then P v (finds_host v port) (λ u. learns_source u port frame) found
@@ -175,10 +181,12 @@ module _ (P : ℕ → Mac → Type 0) where
     trapped_now : (old : Pmac) (trap : Trap) (g : Grant) → granted v old ≡ Some g → is_held g.held ≡ true → Quiets P v (does (with_trap v old g trap) [])
     trapped_now old trap g is held =
         let here = (granted_parts v old g is).0 in
-        unused_quiets P v old g (record g { held = Trapped trap 0 }) here (local_settled v old here) (granted_within v old g is listed.many) is refl held refl refl listed
-        (with_trap v old g trap) [] refl refl tt tt
+        unused_quiets P v old g (record g { held = Trapped trap 0 }) here (local_settled v old here)
+        (granted_within v old g is listed.many) is refl held refl refl listed
+        (with_trap v old g trap) [] refl refl tt
 
-    trapped : (old : Pmac) (trap : Trap) (g : Grant) → granted v old ≡ Some g → is_held g.held ≡ true → (o : Option Trap) → Quiets P v (does (sets_trap_over o v old g trap) [])
+    trapped : (old : Pmac) (trap : Trap) (g : Grant) → granted v old ≡ Some g → is_held g.held ≡ true → (o : Option Trap) →
+        Quiets P v (does (sets_trap_over o v old g trap) [])
     trapped old trap g is held None = trapped_now old trap g is held
     trapped old trap g is held (Some standing) =
         cond_both (nat_lt trap.number standing.number) v (with_trap v old g trap) (λ (w : SwitchView). Quiets P v (does w []))
@@ -224,7 +232,8 @@ module _ (P : ℕ → Mac → Type 0) where
     quiet_row says a = enters_of P v (hears_manager choose v says) (aside_takes P v (hears_manager choose v says) a)
 
     -- an address that rested is freed
-    freed_at_rest : (x : Pmac) (g : Grant) → granted v x ≡ Some g → (h : AddressUse) → g.held ≡ h → Enters P v (frees_at v x g h) ⊎ FreesOne v (frees_at v x g h)
+    freed_at_rest : (x : Pmac) (g : Grant) → granted v x ≡ Some g → (h : AddressUse) → g.held ≡ h →
+        Enters P v (frees_at v x g h) ⊎ FreesOne v (frees_at v x g h)
     freed_at_rest x g was (Resting number) is = inr (record { pmac = x; grant = g; was = was; held = ap is_held is; is = refl })
     freed_at_rest x g was (InUse idle) is = inl (enters_of P v (rests v) (rests_takes P v))
     freed_at_rest x g was (Trapped trap age) is = inl (enters_of P v (rests v) (rests_takes P v))
@@ -237,12 +246,14 @@ module _ (P : ℕ → Mac → Type 0) where
     says_row : (says : ToSwitch) → Enters P v (hears_manager choose v says) ⊎ FreesOne v (hears_manager choose v says)
     says_row (say.Pod pod) = inl (enters_of P v (hears_manager choose v (say.Pod pod)) (pod_row pod))
     says_row (say.Avoid list) = inl (quiet_row (say.Avoid list) (record { place = refl; k = refl; grants = refl; freed = refl; remembered = refl; silent = tt }))
-    says_row (say.Tree group part) = inl (quiet_row (say.Tree group part) (record { place = refl; k = refl; grants = refl; freed = refl; remembered = refl; silent = tt }))
-    says_row (say.Answer asker asker_ip ip pmac) = inl (enters_of P v (hears_manager choose v (say.Answer asker asker_ip ip pmac)) (answer_row asker asker_ip ip pmac))
+    says_row (say.Tree group part) = inl (quiet_row (say.Tree group part)
+        (record { place = refl; k = refl; grants = refl; freed = refl; remembered = refl; silent = tt }))
+    says_row (say.Answer asker asker_ip ip pmac) = inl (enters_of P v (hears_manager choose v (say.Answer asker asker_ip ip pmac))
+        (answer_row asker asker_ip ip pmac))
     says_row (say.Flood asker asker_ip ip) = inl (enters_of P v (hears_manager choose v (say.Flood asker asker_ip ip)) (flood_row asker asker_ip ip))
     says_row (say.Invalidate old new number ip) = inl (recalled old (record { new = new; number = number; ip = ip }) (granted v old) refl)
     says_row (say.Release x) = released_row x (granted v x) refl
-    says_row (say.Hello epoch) = inl (hello_enters P v epoch)
+    says_row (say.Hello epoch) = inl (hello_enters P v listed epoch)
 
     pub step_takes : (input : SwitchInput) → ComesWell P v input → Enters P v (switch_step choose v input) ⊎ FreesOne v (switch_step choose v input)
     step_takes (Comes port frame) well = inl (enters_of P v (switch_step choose v (Comes port frame)) (comes_row port frame well))

@@ -1,10 +1,9 @@
 -- A step of a switch keeps the ledger.
 use Rattle.std.proofs.Common.{◌≡◌, ◌≢◌, ◌⊎◌, ◌≤◌, ◌<◌, ◌==◌, ◌&&◌, not, ℕ, true, false, get_or, set, List, ◌∷◌, length, Some, slice_get, refl, sym, ap, subst, ◌∙◌, inl, inr, arith, None, Option}
-use Rattle.std.specs.List.{AllByRecursion, list_any}
-use Rattle.std.specs.Option.{option_map}
+use Rattle.std.specs.List.{AllByRecursion}
 use Rattle.std.proofs.lemmas.Bool.{cases_eq, eq-eqb, eqb-true, false_from_ne_true, false≢true}
 use Rattle.std.proofs.lemmas.Iterator.Adapters.{position_from-zero}
-use Rattle.std.proofs.lemmas.Option.{none-some, same_Some, slice_get_within}
+use Rattle.std.proofs.lemmas.Option.{same_Some, slice_get_within}
 use Rattle.pl_node.specs.declared.switch_records.Source.{Source}
 use Rattle.pl_lemmas.proofs.Exports.{all_found}
 use Rattle.pl_frame.specs.declared.address.Mac.{Mac}
@@ -14,7 +13,6 @@ use Rattle.pl_pmac.proofs.Exports.{same_pmac_number}
 use Rattle.pl_layouts.specs.Equality.{same_mac, same_pmac}
 use Rattle.pl_layouts.proofs.Exports.{mac_is}
 use Rattle.pl_node.specs.AddressUses.{is_held, is_in_use}
-use Rattle.pl_node.specs.declared.messages.ToManager.{ToManager}
 use Rattle.pl_node.specs.declared.switch_records.Grant.{Grant}
 use Rattle.pl_node.specs.Accounting.{IsShaped}
 use Rattle.pl_node.specs.ManagerViews.{Learnt, Registration, registration}
@@ -22,20 +20,17 @@ use Rattle.pl_node.specs.SwitchViews.{SwitchView}
 use Rattle.pl_journal.specs.declared.entry.Entry.{Entry}
 use Rattle.pl_journal.specs.declared.entry.Entry.TheVariants.{Freed}
 use Rattle.pl_journal.specs.Places.{at_port, granted_at, is_live as is_live_in, number}
-use Rattle.pl_queues.specs.Queues.{items_at}
 use Rattle.pl_switch_rule.specs.Granting.{granted, grants_at, is_local, remembered_at}
 use Rattle.pl_switch_rule.proofs.Exports.{granted_parts}
 use Rattle.pl_wiring.specs.declared.host.Host.{Host}
 use Rattle.pl_wiring.specs.Plan.{Plan}
 use Rattle.pl_world.specs.declared.attachment.AttachmentPoint.{AttachmentPoint}
 use Rattle.pl_world.specs.Changes.{host_of}
-use Rattle.pl_law_phases.proofs.Exports.{in_use_for}
 use Rattle.pl_law_addresses.specs.Addressed.{AreApart, IsGrantedBySome}
-use Rattle.pl_law_addresses.specs.EdgeAddresses.{IsHeldFor, is_live, tells}
-use Rattle.pl_law_addresses.specs.Registries.{number_of, registry_of}
-use Rattle.pl_law_addresses.proofs.Exports.{first_passes, get-set_other, get-set_same, granted_within, is_or_other, not_held, number_within, same_by}
+use Rattle.pl_law_addresses.specs.EdgeAddresses.{IsHeldFor, is_live}
+use Rattle.pl_law_addresses.proofs.Exports.{first_passes, get-set_other, get-set_same, granted_within, in_use_for, is_or_other, not_held, number_within, same_by}
 use Rattle.pl_law_ledger.specs.Ledgers.{AreEntered, AreInBounds, HasStoodThere, IsEntered, IsGrantedThere}
-use Rattle.pl_law_ledger.proofs.AddressTables.{GivesGood, HasLast, IsFor, SaysAlike, alike, all_backed, backed_later, given_number, last_given, last_stays, no_number, now_at, other_numbers, some_holder, still_at, was_number}
+use Rattle.pl_law_ledger.proofs.AddressTables.{GivesGood, HasLast, IsFor, SaysAlike, alike, all_backed, backed_later, last_given, last_stays, now_at, other_numbers, some_holder, still_at, was_number}
 use Rattle.pl_law_ledger.proofs.Giving.{Giving, IsNewlyGiven, IsOneOf, all_weaker, gives, of_all}
 use Rattle.pl_law_ledger.proofs.Takes.{AreFew, AreOf, IsOfHere, IsThereStill, WasGranted}
 use Rattle.pl_law_ledger.proofs.Using.{AreOnly, IsTheLast, IsUsedAt}
@@ -68,29 +63,24 @@ fits_there switches shaped bounds few s v x g found is =
 -- an actual address is known by its host
 one_mac : (plan : Plan) (a b : Mac) (h : ℕ) → host_of plan a ≡ Some h → host_of plan b ≡ Some h → a ≡ b
 one_mac plan a b h is_a is_b =
-    let one = first_passes (λ (host : Host). same_mac host.mac a) plan.hosts 0 h (sym (position_from-zero (λ (host : Host). same_mac host.mac a) plan.hosts) ∙ is_a) in
-    let other = first_passes (λ (host : Host). same_mac host.mac b) plan.hosts 0 h (sym (position_from-zero (λ (host : Host). same_mac host.mac b) plan.hosts) ∙ is_b) in
+    let one = first_passes (λ (host : Host). same_mac host.mac a) plan.hosts 0 h
+    (sym (position_from-zero (λ (host : Host). same_mac host.mac a) plan.hosts) ∙ is_a) in
+    let other = first_passes (λ (host : Host). same_mac host.mac b) plan.hosts 0 h
+    (sym (position_from-zero (λ (host : Host). same_mac host.mac b) plan.hosts) ∙ is_b) in
     let here = one.is in let there = other.is in
     let place : one.at ≡ other.at = omega (arith, here, there) in
     let host : one.item ≡ other.item = same_Some one.item other.item (sym one.found ∙ ap (slice_get plan.hosts) place ∙ other.found) in
     sym (mac_is one.item.mac a one.passes) ∙ ap (λ (q : Host). q.mac) host ∙ mac_is other.item.mac b other.passes
 
 -- the port at which it has stood is written down still
-pub stood_later : (plan : Plan) (s : ℕ) (entries later : List Entry) (mac : Mac) (t port : ℕ) → SaysAlike plan s entries later → HasStoodThere plan entries mac (at_port t port) →
+pub stood_later : (plan : Plan) (s : ℕ) (entries later : List Entry) (mac : Mac) (t port : ℕ) → SaysAlike plan s entries later →
+    HasStoodThere plan entries mac (at_port t port) →
     HasStoodThere plan later mac (at_port t port)
 stood_later plan s entries later mac t port same is =
     record { host = is.host; of_mac = is.of_mac; stood = same.stood is.host (at_port t port) ∙ is.stood; for_hosts = is.for_hosts }
 
--- a number that is registered is of a registration
-number_of_reg : (learnt : Learnt) (x : Pmac) (n : ℕ) → number_of (registry_of learnt) x ≡ Some n → (reg : Registration) × (registration learnt x ≡ Some reg)
-number_of_reg learnt x n is = by (registration learnt x) refl is
-  where
-    by : (o : Option Registration) → registration learnt x ≡ o → option_map (λ (r : Registration). r.number) o ≡ Some n → (reg : Registration) × (registration learnt x ≡ Some reg)
-    by None found none = absurd (none-some n none)
-    by (Some reg) found some = (reg, found)
-
-module _ (plan : Plan) (learnt : Learnt) (switches : List SwitchView) (attachments : List AttachmentPoint) (up : List (List ToManager)) (entries : List Entry)
-    (before : AreEntered plan learnt switches attachments up entries) (s : ℕ) (v w : SwitchView) (found : slice_get switches s ≡ Some v)
+module _ (plan : Plan) (learnt : Learnt) (switches : List SwitchView) (attachments : List AttachmentPoint) (entries : List Entry)
+    (before : AreEntered plan learnt switches attachments entries) (s : ℕ) (v w : SwitchView) (found : slice_get switches s ≡ Some v)
     (shaped : AllByRecursion IsShaped (set switches s w)) (bounds : AreInBounds (set switches s w)) (apart : AreApart (set switches s w))
     (still : IsThereStill v w) (few : AreFew w) where
   within : s < length switches
@@ -110,7 +100,8 @@ module _ (plan : Plan) (learnt : Learnt) (switches : List SwitchView) (attachmen
   fits_now t u x g is found = fits_there (set switches s w) shaped bounds few_now t u x g is found
 
   -- an address of a number that a granted address of this switch has is that one, and of this switch
-  one_of_number : (t : ℕ) (u : SwitchView) (x : Pmac) (g : Grant) → slice_get (set switches s w) t ≡ Some u → granted u x ≡ Some g → (y : Pmac) (q : Grant) → granted w y ≡ Some q →
+  one_of_number : (t : ℕ) (u : SwitchView) (x : Pmac) (g : Grant) → slice_get (set switches s w) t ≡ Some u → granted u x ≡ Some g → (y : Pmac) (q : Grant) →
+      granted w y ≡ Some q →
       pmac_number y ≡ pmac_number x → (y ≡ x) × (t ≡ s)
   unfolding within there
   one_of_number t u x g is found y q mine same =
@@ -131,7 +122,8 @@ module _ (plan : Plan) (learnt : Learnt) (switches : List SwitchView) (attachmen
   ]
 
   -- what is somebody's at some switch before is granted there then
-  granted_then : (x : Pmac) (mac : Mac) → IsGrantedBySome switches x mac → (t : ℕ) × (u : SwitchView) × (g : Grant) × (slice_get (set switches s w) t ≡ Some u) × (granted u x ≡ Some g)
+  granted_then : (x : Pmac) (mac : Mac) → IsGrantedBySome switches x mac →
+      (t : ℕ) × (u : SwitchView) × (g : Grant) × (slice_get (set switches s w) t ≡ Some u) × (granted u x ≡ Some g)
   unfolding there
   granted_then x mac h = elim (cases_eq h.switch s) [
     | inr other ↦ (h.switch, h.view, h.granted_to.grant, get-set_other switches s h.switch w other ∙ h.found, h.granted_to.found)
@@ -142,30 +134,41 @@ module _ (plan : Plan) (learnt : Learnt) (switches : List SwitchView) (attachmen
   ]
 
   -- ---- addresses are granted
-  module _ (gs : List Giving) (up_then : List (List ToManager)) (fresh : AllByRecursion (IsNewlyGiven v w) gs)
+  module _ (gs : List Giving) (fresh : AllByRecursion (IsNewlyGiven v w) gs)
       (of_hosts : AllByRecursion (IsOfHere (λ port mac. HasStoodThere plan entries mac (at_port s port))) gs)
       (covers : (x : Pmac) (g : Grant) → granted w x ≡ Some g → WasGranted v x g ⊎ IsOneOf gs (gives x g.amac))
-      (last : (x : Pmac) (mac : Mac) → IsUsedAt w x mac → IsTheLast v gs x mac) (sources : AreOf (λ port mac. HasStoodThere plan entries mac (at_port s port)) w)
-      (registered : (x : Pmac) (reg : Registration) → registration learnt x ≡ Some reg → IsGrantedBySome switches x reg.amac)
-      (told : (t : ℕ) (x : Pmac) → list_any (tells x) (items_at up_then t) ≡ true → number_of (registry_of learnt) x ≡ None →
-      (list_any (tells x) (items_at up t) ≡ true) ⊎ ((mac : Mac) × IsOneOf gs (gives x mac))) where
+      (last : (x : Pmac) (mac : Mac) → IsUsedAt w x mac → IsTheLast v gs x mac)
+      (sources : AreOf (λ port mac. HasStoodThere plan entries mac (at_port s port)) w)
+      (registered : (x : Pmac) (reg : Registration) → registration learnt x ≡ Some reg → IsGrantedBySome switches x reg.amac) where
     -- an address that was granted is written down as it was, where no new one has its number
-    entered_old : (t : ℕ) (x : Pmac) (g q : Grant) → q.amac ≡ g.amac → is_held q.held ≡ is_held g.held → AllByRecursion (λ h. pmac_number h.pmac ≡ pmac_number x → ⊥) gs →
+    entered_old : (t : ℕ) (x : Pmac) (g q : Grant) → q.amac ≡ g.amac → is_held q.held ≡ is_held g.held →
+        AllByRecursion (λ h. pmac_number h.pmac ≡ pmac_number x → ⊥) gs →
         IsEntered plan entries t x q → IsEntered plan (all_written plan s entries gs) t x g
     entered_old t x g q mac held none e =
         let at = still_at plan s gs entries (pmac_number x) e.host (at_port t x.port) (is_held q.held)
-        (all_weaker (λ h. pmac_number h.pmac ≡ pmac_number x → ⊥) (IsFor plan s (pmac_number x) e.host (at_port t x.port) (is_held q.held)) (λ h other. inl other) gs none)
+        (all_weaker (λ h. pmac_number h.pmac ≡ pmac_number x → ⊥) (IsFor plan s (pmac_number x) e.host (at_port t x.port) (is_held q.held))
+        (λ h other. inl other) gs none)
         (record { held = e.held; there = e.there; is_so = e.live }) in
-        record { host = e.host; of_mac = ap (host_of plan) (sym mac) ∙ e.of_mac; held = at.held; live = at.is_so ∙ held; there = at.there; for_hosts = e.for_hosts }
+        record {
+          host = e.host;
+          of_mac = ap (host_of plan) (sym mac) ∙ e.of_mac;
+          held = at.held;
+          live = at.is_so
+              ∙ held;
+          there = at.there;
+          for_hosts = e.for_hosts;
+        }
 
     -- a new address has no number of another one
-    new_apart : (t : ℕ) (u : SwitchView) (x : Pmac) (g : Grant) → slice_get (set switches s w) t ≡ Some u → granted u x ≡ Some g → ((h : Giving) → IsNewlyGiven v w h → h.pmac ≡ x → t ≡ s → ⊥) →
+    new_apart : (t : ℕ) (u : SwitchView) (x : Pmac) (g : Grant) → slice_get (set switches s w) t ≡ Some u → granted u x ≡ Some g →
+        ((h : Giving) → IsNewlyGiven v w h → h.pmac ≡ x → t ≡ s → ⊥) →
         AllByRecursion (λ h. pmac_number h.pmac ≡ pmac_number x → ⊥) gs
     new_apart t u x g is found_there never =
         all_weaker (IsNewlyGiven v w) (λ h. pmac_number h.pmac ≡ pmac_number x → ⊥)
         (λ h new same. let it = one_of_number t u x g is found_there h.pmac new.1.grant new.1.found same in never h new it.0 it.1) gs fresh
 
-    grants_now : (t : ℕ) (u : SwitchView) (x : Pmac) (g : Grant) → slice_get (set switches s w) t ≡ Some u → granted u x ≡ Some g → IsEntered plan (all_written plan s entries gs) t x g
+    grants_now : (t : ℕ) (u : SwitchView) (x : Pmac) (g : Grant) → slice_get (set switches s w) t ≡ Some u → granted u x ≡ Some g →
+        IsEntered plan (all_written plan s entries gs) t x g
     unfolding within there
     grants_now t u x g is found_there = elim (at_same switches s w t u within is) [
       | inr other ↦
@@ -178,13 +181,15 @@ module _ (plan : Plan) (learnt : Learnt) (switches : List SwitchView) (attachmen
                 (new_apart s w x g there mine (λ h new one same.
                 let now : new.1.grant ≡ g = same_Some new.1.grant g (sym new.1.found ∙ ap (λ (y : Pmac). granted w y) one ∙ mine) in
                 let held : is_held old.grant.held ≡ true = old.held ∙ ap (λ (q : Grant). is_held q.held) (sym now) ∙ new.1.held in
-                not_held v x old.grant.amac (ap (λ (y : Pmac). is_live v y) (sym one) ∙ new.0) (record { grant = old.grant; found = old.found; held = held; to = refl })))
+                not_held v x old.grant.amac (ap (λ (y : Pmac). is_live v y) (sym one) ∙ new.0)
+                (record { grant = old.grant; found = old.found; held = held; to = refl })))
                 (before.grants s v x old.grant found old.found)
             | inr one ↦
                 let host = of_all (IsOfHere (λ port mac. HasStoodThere plan entries mac (at_port s port))) gs (gives x g.amac) of_hosts one in
                 let new = of_all (IsNewlyGiven v w) gs (gives x g.amac) fresh one in
                 let all : AllByRecursion (IsFor plan s (pmac_number x) host.host (at_port s x.port) true) gs =
-                all_weaker (IsNewlyGiven v w) (IsFor plan s (pmac_number x) host.host (at_port s x.port) true) (λ h new. this_or_other x g mine host.host host.of_mac h new) gs fresh in
+                all_weaker (IsNewlyGiven v w) (IsFor plan s (pmac_number x) host.host (at_port s x.port) true)
+                (λ h new. this_or_other x g mine host.host host.of_mac h new) gs fresh in
                 let at = now_at plan s gs entries (gives x g.amac) host.host one host.of_mac all in
                 let now : new.1.grant ≡ g = same_Some new.1.grant g (sym new.1.found ∙ mine) in
                 record {
@@ -210,7 +215,8 @@ module _ (plan : Plan) (learnt : Learnt) (switches : List SwitchView) (attachmen
 
     -- ---- the last address of a host at a port
     -- what is granted to its host at the port of an address in use is that one
-    only_given : (x : Pmac) (mac : Mac) (h : ℕ) → host_of plan mac ≡ Some h → (fs : List Giving) → AreOnly x mac fs → AllByRecursion (GivesGood plan s (λ y. y ≡ x) s h x.port) fs
+    only_given : (x : Pmac) (mac : Mac) (h : ℕ) → host_of plan mac ≡ Some h → (fs : List Giving) → AreOnly x mac fs →
+        AllByRecursion (GivesGood plan s (λ y. y ≡ x) s h x.port) fs
     only_given x mac h of fs only =
         all_weaker (λ f. f.mac ≡ mac → f.pmac.port ≡ x.port → f.pmac ≡ x) (GivesGood plan s (λ y. y ≡ x) s h x.port)
         (λ f one mine at. one (one_mac plan f.mac mac h mine of) at.1) fs only
@@ -227,10 +233,12 @@ module _ (plan : Plan) (learnt : Learnt) (switches : List SwitchView) (attachmen
               (record { last = x; is_last = before.last s v x old.grant h found old.found old.used (ap (host_of plan) old.to ∙ of); good = refl })
         ])
       where
-        is_last_of : HasLast plan s (all_written plan s entries gs) (λ y. y ≡ x) s h x.port → granted_at (all_written plan s entries gs) h (at_port s x.port) ≡ Some x
+        is_last_of : HasLast plan s (all_written plan s entries gs) (λ y. y ≡ x) s h x.port →
+            granted_at (all_written plan s entries gs) h (at_port s x.port) ≡ Some x
         is_last_of l = l.is_last ∙ ap Some l.good
 
-    last_now : (t : ℕ) (u : SwitchView) (x : Pmac) (g : Grant) (h : ℕ) → slice_get (set switches s w) t ≡ Some u → granted u x ≡ Some g → is_in_use g.held ≡ true →
+    last_now : (t : ℕ) (u : SwitchView) (x : Pmac) (g : Grant) (h : ℕ) → slice_get (set switches s w) t ≡ Some u → granted u x ≡ Some g →
+        is_in_use g.held ≡ true →
         host_of plan g.amac ≡ Some h → granted_at (all_written plan s entries gs) h (at_port t x.port) ≡ Some x
     unfolding within there
     last_now t u x g h is found_there used of = elim (at_same switches s w t u within is) [
@@ -245,37 +253,31 @@ module _ (plan : Plan) (learnt : Learnt) (switches : List SwitchView) (attachmen
     ]
 
     -- ---- numbers
-    -- a registered address is somebody's, so it is not given now
-    numbers_now : (x : Pmac) (n : ℕ) → PmacFits x → number_of (registry_of learnt) x ≡ Some n → number (all_written plan s entries gs) (pmac_number x) ≡ Some n
-    numbers_now x n fits is =
-        let reg = number_of_reg learnt x n is in
-        let h = registered x reg.0 reg.1 in
-        let at = granted_then x reg.0.amac h in
-        other_numbers plan s gs entries (pmac_number x) (new_apart at.0 at.1 x at.2 at.3 at.4 (λ f new one same. never h at f new one same))
-        ∙ before.numbers x n fits is
+    -- an address that is somebody's is not given now, so it has its number still
+    pub number_stays : (x : Pmac) (mac : Mac) → IsGrantedBySome switches x mac →
+        number (all_written plan s entries gs) (pmac_number x) ≡ number entries (pmac_number x)
+    number_stays x mac h =
+        let at = granted_then x mac h in
+        other_numbers plan s gs entries (pmac_number x) (new_apart at.0 at.1 x at.2 at.3 at.4 never)
       where
-        never : {mac : Mac} (h : IsGrantedBySome switches x mac) (at : (t : ℕ) × (u : SwitchView) × (g : Grant) × (slice_get (set switches s w) t ≡ Some u) × (granted u x ≡ Some g)) →
-            (f : Giving) → IsNewlyGiven v w f → f.pmac ≡ x → at.0 ≡ s → ⊥
-        never {mac = mac} h at f new one same = elim (cases_eq h.switch s) [
+        never : (f : Giving) → IsNewlyGiven v w f → f.pmac ≡ x → (granted_then x mac h).0 ≡ s → ⊥
+        never f new one same = elim (cases_eq h.switch s) [
           | inl here ↦
               let view : h.view ≡ v = same_Some h.view v (sym h.found ∙ ap (slice_get switches) here ∙ found) in
-              not_held v x mac (ap (λ (y : Pmac). is_live v y) (sym one) ∙ new.0) (subst (λ (q : SwitchView). IsHeldFor (λ y. granted q y) x mac) view h.granted_to)
+              not_held v x mac (ap (λ (y : Pmac). is_live v y) (sym one) ∙ new.0)
+              (subst (λ (q : SwitchView). IsHeldFor (λ y. granted q y) x mac) view h.granted_to)
           | inr other ↦
-              let it = one_of_number h.switch h.view x h.granted_to.grant (get-set_other switches s h.switch w other ∙ h.found) h.granted_to.found f.pmac new.1.grant new.1.found
+              let it = one_of_number h.switch h.view x h.granted_to.grant (get-set_other switches s h.switch w other
+              ∙ h.found) h.granted_to.found f.pmac new.1.grant new.1.found
               (ap pmac_number one) in
               other it.1
         ]
 
-    unnumbered_now : (t : ℕ) (x : Pmac) → PmacFits x → list_any (tells x) (items_at up_then t) ≡ true → number_of (registry_of learnt) x ≡ None →
-        number (all_written plan s entries gs) (pmac_number x) ≡ None
-    unnumbered_now t x fits tells none = elim (told t x tells none) [
-      | inl old ↦ no_number plan s gs entries (pmac_number x) (before.unnumbered t x fits old none)
-      | inr new ↦
-          let host = of_all (IsOfHere (λ port mac. HasStoodThere plan entries mac (at_port s port))) gs (gives x new.0) of_hosts new.1 in
-          given_number plan s gs entries (gives x new.0) host.host new.1 host.of_mac
-    ]
+    numbers_now : (x : Pmac) (reg : Registration) → PmacFits x → registration learnt x ≡ Some reg →
+        number (all_written plan s entries gs) (pmac_number x) ≡ Some reg.number
+    numbers_now x reg fits is = number_stays x reg.amac (registered x reg is) ∙ before.numbers x reg fits is
 
-    pub step_entered : AreEntered plan learnt (set switches s w) attachments up_then (all_written plan s entries gs)
+    pub step_entered : AreEntered plan learnt (set switches s w) attachments (all_written plan s entries gs)
     unfolding within there
     step_entered =
         let same = alike plan s gs entries in
@@ -296,25 +298,28 @@ module _ (plan : Plan) (learnt : Learnt) (switches : List SwitchView) (attachmen
           ];
           standing = λ h attachment is. same.stood h (at_port attachment.edge.0 attachment.port) ∙ before.standing h attachment is;
           numbers = numbers_now;
-          unnumbered = unnumbered_now;
           numbered = λ n m is. some_holder plan s gs entries n (before.numbered n m (was_number plan s gs entries n m is));
           most = subst (λ n. n ≤ learnt.count) (sym same.most) before.most;
         }
 
   -- ---- an address is freed
-  module _ (x : Pmac) (freed : Grant) (now : granted w x ≡ Some freed) (free : is_held freed.held ≡ false) (was : Grant) (found_was : granted v x ≡ Some was) (same_mac : was.amac ≡ freed.amac)
+  module _ (x : Pmac) (freed : Grant) (now : granted w x ≡ Some freed) (free : is_held freed.held ≡ false) (was : Grant) (found_was : granted v x ≡ Some was)
+      (same_mac : was.amac ≡ freed.amac)
       (others : (y : Pmac) → same_pmac y x ≡ false → granted w y ≡ granted v y) (remembers : w.remembered ≡ v.remembered) where
-    other_entered : (t : ℕ) (y : Pmac) (g : Grant) → (pmac_number x ≡ pmac_number y → ⊥) → IsEntered plan entries t y g → IsEntered plan (Freed x ∷ entries) t y g
+    other_entered : (t : ℕ) (y : Pmac) (g : Grant) → (pmac_number x ≡ pmac_number y → ⊥) → IsEntered plan entries t y g →
+        IsEntered plan (Freed x ∷ entries) t y g
     other_entered t y g other e = record {
       host = e.host;
       of_mac = e.of_mac;
       held = e.held;
-      live = ap (λ b. not b && is_live_in entries (pmac_number y)) (false_from_ne_true (pmac_number x == pmac_number y) (λ is. other (eqb-true (pmac_number x) (pmac_number y) is))) ∙ e.live;
+      live = ap (λ b. not b && is_live_in entries (pmac_number y))
+          (false_from_ne_true (pmac_number x == pmac_number y) (λ is. other (eqb-true (pmac_number x) (pmac_number y) is))) ∙ e.live;
       there = e.there;
       for_hosts = e.for_hosts;
     }
 
-    freed_grants : (t : ℕ) (u : SwitchView) (y : Pmac) (g : Grant) → slice_get (set switches s w) t ≡ Some u → granted u y ≡ Some g → IsEntered plan (Freed x ∷ entries) t y g
+    freed_grants : (t : ℕ) (u : SwitchView) (y : Pmac) (g : Grant) → slice_get (set switches s w) t ≡ Some u → granted u y ≡ Some g →
+        IsEntered plan (Freed x ∷ entries) t y g
     unfolding within there
     freed_grants t u y g is found_there = elim (at_same switches s w t u within is) [
       | inr other ↦
@@ -332,14 +337,16 @@ module _ (plan : Plan) (learnt : Learnt) (switches : List SwitchView) (attachmen
                   host = e.host;
                   of_mac = ap (host_of plan) (sym (same_mac ∙ ap (λ (q : Grant). q.amac) grant)) ∙ e.of_mac;
                   held = e.held;
-                  live = ap (λ b. not b && is_live_in entries (pmac_number x)) (eq-eqb (pmac_number x) (pmac_number x) refl) ∙ sym (ap (λ (q : Grant). is_held q.held) (sym grant) ∙ free);
+                  live = ap (λ b. not b && is_live_in entries (pmac_number x)) (eq-eqb (pmac_number x) (pmac_number x) refl) ∙ sym
+                      (ap (λ (q : Grant). is_held q.held) (sym grant) ∙ free);
                   there = e.there;
                   for_hosts = e.for_hosts;
                 })
           ])
     ]
 
-    freed_last : (t : ℕ) (u : SwitchView) (y : Pmac) (g : Grant) (h : ℕ) → slice_get (set switches s w) t ≡ Some u → granted u y ≡ Some g → is_in_use g.held ≡ true →
+    freed_last : (t : ℕ) (u : SwitchView) (y : Pmac) (g : Grant) (h : ℕ) → slice_get (set switches s w) t ≡ Some u → granted u y ≡ Some g →
+        is_in_use g.held ≡ true →
         host_of plan g.amac ≡ Some h → granted_at entries h (at_port t y.port) ≡ Some y
     unfolding within there
     freed_last t u y g h is found_there used of = elim (at_same switches s w t u within is) [
@@ -354,7 +361,7 @@ module _ (plan : Plan) (learnt : Learnt) (switches : List SwitchView) (attachmen
           ])
     ]
 
-    pub freed_entered : AreEntered plan learnt (set switches s w) attachments up (Freed x ∷ entries)
+    pub freed_entered : AreEntered plan learnt (set switches s w) attachments (Freed x ∷ entries)
     unfolding within there
     freed_entered = record {
       grants = freed_grants;
@@ -371,7 +378,6 @@ module _ (plan : Plan) (learnt : Learnt) (switches : List SwitchView) (attachmen
       ];
       standing = before.standing;
       numbers = before.numbers;
-      unnumbered = before.unnumbered;
       numbered = before.numbered;
       most = before.most;
     }

@@ -1,7 +1,8 @@
 -- What a step of a switch grants and remembers: parts of a step, and how they go together.
 use Rattle.std.proofs.Common.{◌≡◌, ◌⊎◌, ◌≤◌, ◌<◌, ◌+◌, ◌-◌, ℕ, Bool, true, false, nat_lt, if◌then◌else◌, get_or, set, List, [], ◌∷◌, ◌++◌, length, Option, Some, None, refl, sym, ap, subst, ◌∙◌, inl, inr, arith, zero, suc, get_or-set_same, get_or-set_other, length-set, length-append}
 use Rattle.std.specs.List.{AllByRecursion}
-use Rattle.std.proofs.lemmas.Bool.{cases_eq, false≢true, ltb-true}
+use Rattle.std.specs.Option.{option_map}
+use Rattle.std.proofs.lemmas.Bool.{cases_Bool, cases_eq, false≢true, ltb-true}
 use Rattle.std.proofs.lemmas.Option.{none-some, same_Some}
 use Rattle.pl_lemmas.proofs.Exports.{all_append}
 use Rattle.pl_frame.specs.declared.address.Ip4.{Ip4}
@@ -12,17 +13,17 @@ use Rattle.pl_layouts.specs.Equality.{same_pmac}
 use Rattle.pl_node.specs.AddressUses.{is_held, is_in_use}
 use Rattle.pl_node.specs.declared.acts.Act.{Act}
 use Rattle.pl_node.specs.declared.address_use.AddressUse.{AddressUse}
+use Rattle.pl_node.specs.declared.address_use.AddressUse.TheVariants.{Free, InUse, Resting, Trapped}
 use Rattle.pl_node.specs.declared.switch_records.Grant.{Grant}
 use Rattle.pl_node.specs.declared.switch_records.Source.{Source}
 use Rattle.pl_node.specs.SwitchViews.{SwitchView}
 use Rattle.pl_steps.specs.Steps.{SwitchStep, rests, ◌▹◌}
 use Rattle.pl_switch_rule.specs.Granting.{address_at_port, all_but_first, freed_at, grant_number, granted, grants_at, grants_new, grants_next, in_use, is_local, new_grant, next_vmid, remembered_at, with_grants, with_next}
 use Rattle.pl_switch_rule.proofs.Exports.{granted_parts}
-use Rattle.pl_law_phases.proofs.Exports.{in_use_for}
-use Rattle.pl_law_addresses.specs.EdgeAddresses.{is_settled}
+use Rattle.pl_law_addresses.specs.EdgeAddresses.{is_held as is_held_there, is_live, is_settled}
 use Rattle.pl_law_addresses.specs.FreeVmids.{AreFreeVmids}
-use Rattle.pl_law_addresses.proofs.Exports.{aside_does, granted_here, held_free, is_or_other, IsNextVmid, LeavesAddresses, local_here, next_granted, none_used, now_at, number_set_other, number_set_same, number_within, others_at, told_by}
-use Rattle.pl_law_ledger.proofs.Giving.{AreToldOf, FreesNone, Giving, IsOneOf, all_weaker, first_part, gives, givings, givings_append, none_given, of_all, second_part, silent_frees_none, silent_told, told_both, words_weaker}
+use Rattle.pl_law_addresses.proofs.Exports.{aside_does, granted_here, held_free, in_use_for, is_or_other, IsNextVmid, LeavesAddresses, local_here, next_granted, none_used, now_at, number_set_other, number_set_same, number_within, others_at}
+use Rattle.pl_law_ledger.proofs.Giving.{FreesNone, Giving, IsFresh, IsNewlyGiven, IsOneOf, all_weaker, first_part, gives, givings, givings_append, none_given, of_all, second_part, silent_frees_none}
 use Rattle.pl_law_ledger.proofs.Using.{IsFirstThere, IsTheLast, IsUsedAt, IsUsedThen, same_used}
 
 -- one list of grants for each port, empty as long as the switch is no placed edge switch, and one of the vmids of its free addresses
@@ -42,16 +43,42 @@ pub record WasGranted (v : SwitchView) (x : Pmac) (g : Grant) : Type 0 where
   pub to : grant.amac ≡ g.amac
   pub held : is_held grant.held ≡ is_held g.held
 
-was_so : (v : SwitchView) (x : Pmac) (g : Grant) → granted v x ≡ Some g → WasGranted v x g
+pub was_so : (v : SwitchView) (x : Pmac) (g : Grant) → granted v x ≡ Some g → WasGranted v x g
 was_so v x g is = record { grant = g; found = is; to = refl; held = refl }
 
 -- what was granted under an address is so still, or another grant is in its place
 abbrev pub IsThereStill : SwitchView → SwitchView → Type 0
 IsThereStill v w = (x : Pmac) (g : Grant) → granted v x ≡ Some g → (h : Grant) × (granted w x ≡ Some h)
 
--- an address that is told is in use, or is granted
-abbrev pub IsToldWell : SwitchView → List Giving → Pmac → Type 0
-IsToldWell v gs x = (mac : Mac) × (IsUsedAt v x mac ⊎ IsOneOf gs (gives x mac))
+-- an address that is not free is somebody's
+pub is_as_there : (h : AddressUse) → is_held h ≡ is_held_there (Some h)
+is_as_there (InUse idle) = refl
+is_as_there (Trapped trap age) = refl
+is_as_there (Resting number) = refl
+is_as_there Free = refl
+
+-- where what was granted is so still, what was granted before is held as it was, and what is granted now is in use, a host's address stays one
+live_still : (v w : SwitchView) (gs : List Giving) → IsThereStill v w →
+    ((x : Pmac) (g : Grant) → granted w x ≡ Some g → WasGranted v x g ⊎ IsOneOf gs (gives x g.amac)) →
+    AllByRecursion (IsUsedThen w) gs → (x : Pmac) → is_live w x ≡ false → is_live v x ≡ false
+live_still v w gs there covers used x dead = by (granted v x) refl
+  where
+    held_then : (g : Grant) → granted v x ≡ Some g → (h : Grant) → granted w x ≡ Some h → WasGranted v x h ⊎ IsOneOf gs (gives x h.amac) →
+        is_held g.held ≡ true → is_held h.held ≡ true
+    held_then g is h now (inl was) held = sym was.held ∙ ap (λ (q : Grant). is_held q.held) (same_Some was.grant g (sym was.found ∙ is)) ∙ held
+    held_then g is h now (inr one) held =
+        let u = of_all (IsUsedThen w) gs (gives x h.amac) used one in
+        ap (λ (q : Grant). is_held q.held) (same_Some h u.grant (sym now ∙ u.found)) ∙ ap is_held (in_use_for u.grant.held u.used).1
+
+    by : (o : Option Grant) → granted v x ≡ o → is_live v x ≡ false
+    by None is = ap (λ (o : Option Grant). is_held_there (option_map (λ (g : Grant). g.held) o)) is
+    by (Some g) is = elim (cases_Bool (is_held g.held)) [
+      | inr free ↦ ap (λ (o : Option Grant). is_held_there (option_map (λ (q : Grant). q.held) o)) is ∙ sym (is_as_there g.held) ∙ free
+      | inl held ↦
+          let now = there x g is in
+          absurd (false≢true (sym dead ∙ ap (λ (o : Option Grant). is_held_there (option_map (λ (q : Grant). q.held) o)) now.1 ∙ sym (is_as_there now.0.held)
+          ∙ held_then g is now.0 now.1 (covers x now.0 now.1) held))
+    ]
 
 -- what is found where something was put is that, or nothing is there
 put_or_none : {X : Type 0} (xs : List X) (i : ℕ) (x d y : X) → get_or (set xs i x) i d ≡ y → (x ≡ y) ⊎ (d ≡ y)
@@ -72,7 +99,8 @@ last_of_both u v xs ys x mac before used first last = elim last.from [
   | inr now ↦ record {
     only = all_append (λ f. f.mac ≡ mac → f.pmac.port ≡ x.port → f.pmac ≡ x) xs ys
         (all_weaker (IsUsedThen u) (λ f. f.mac ≡ mac → f.pmac.port ≡ x.port → f.pmac ≡ x)
-        (λ f is mine at. absurd (of_all (IsFirstThere u) ys (gives x mac) first now f.pmac (subst (λ (m : Mac). IsUsedAt u f.pmac m) mine is) at)) xs used) last.only;
+        (λ f is mine at. absurd (of_all (IsFirstThere u) ys (gives x mac) first now f.pmac
+        (subst (λ (m : Mac). IsUsedAt u f.pmac m) mine is) at)) xs used) last.only;
     from = inr (second_part xs ys (gives x mac) now);
   }
 ]
@@ -85,6 +113,23 @@ few_with_one v port new within small few at = elim (cases_eq at port) [
       subst (λ (n : ℕ). length (get_or (set v.grants port new) n []) ≤ 65535) (sym here)
       (subst (λ (gs : List Grant). length gs ≤ 65535) (sym (get_or-set_same v.grants port new [] within)) small)
 ]
+
+-- what is granted to a host that is in use then is its address
+newly_of : (v w : SwitchView) (gs : List Giving) → AllByRecursion (IsFresh v) gs → AllByRecursion (IsUsedThen w) gs → AllByRecursion (IsNewlyGiven v w) gs
+newly_of v w [] fresh used = tt
+newly_of v w (g ∷ gs) fresh used = (
+  (
+    fresh.0,
+    record {
+      grant = used.0.grant;
+      found = used.0.found;
+      held = sym (is_as_there used.0.grant.held) ∙ ap is_held
+          (in_use_for used.0.grant.held used.0.used).1;
+      to = used.0.to;
+    },
+  ),
+  newly_of v w gs fresh.1 used.1,
+)
 
 -- P of a port and an actual address: its host has stood there
 module _ (P : ℕ → Mac → Type 0) where
@@ -100,7 +145,8 @@ module _ (P : ℕ → Mac → Type 0) where
     -- what is granted then was granted before, or is granted by an act
     pub covers : IsListed v → (x : Pmac) (g : Grant) → granted s.view x ≡ Some g → WasGranted v x g ⊎ IsOneOf (givings s.acts) (gives x g.amac)
     pub there : IsListed v → IsThereStill v s.view
-    pub told : IsListed v → AreToldOf (IsToldWell v (givings s.acts)) s.acts
+    -- what is granted was nobody's
+    pub fresh : IsListed v → AllByRecursion (IsFresh v) (givings s.acts)
     pub frees_none : AllByRecursion FreesNone s.acts
     pub listed : IsListed v → IsListed s.view
     pub few : IsListed v → AreFew v → AreFew s.view
@@ -118,20 +164,28 @@ module _ (P : ℕ → Mac → Type 0) where
     pub given : IsListed v → AreOf v → AllByRecursion IsOfHere (givings s.acts)
     pub covers : IsListed v → (x : Pmac) (g : Grant) → granted s.view x ≡ Some g → WasGranted v x g ⊎ IsOneOf (givings s.acts) (gives x g.amac)
     pub there : IsListed v → IsThereStill v s.view
-    pub told : IsListed v → AreToldOf (IsToldWell v (givings s.acts)) s.acts
+    pub newly : IsListed v → AllByRecursion (IsNewlyGiven v s.view) (givings s.acts)
     pub frees_none : AllByRecursion FreesNone s.acts
     pub few : IsListed v → AreFew v → AreFew s.view
     pub sources : AreOf v → AreOf s.view
     pub last : IsListed v → (x : Pmac) (mac : Mac) → IsUsedAt s.view x mac → IsTheLast v (givings s.acts) x mac
 
   pub enters_of : (v : SwitchView) (s : SwitchStep) → Takes v s → Enters v s
-  enters_of v s a = record { given = a.given; covers = a.covers; there = a.there; told = a.told; frees_none = a.frees_none; few = a.few; sources = a.sources; last = a.last }
+  enters_of v s a = record {
+    given = a.given;
+    covers = a.covers;
+    there = a.there;
+    newly = λ listed. newly_of v s.view (givings s.acts) (a.fresh listed) (a.used listed);
+    frees_none = a.frees_none;
+    few = a.few;
+    sources = a.sources;
+    last = a.last;
+  }
 
-  -- a part in which none is granted or freed, and none is told
+  -- a part in which none is granted or freed
   pub record Quiets (v : SwitchView) (s : SwitchStep) : Type 0 where
     pub covers : (x : Pmac) (g : Grant) → granted s.view x ≡ Some g → WasGranted v x g
     pub there : IsThereStill v s.view
-    pub told : AreToldOf (λ y. ⊥) s.acts
     pub frees_none : AllByRecursion FreesNone s.acts
     pub none : givings s.acts ≡ []
     pub listed : IsListed s.view
@@ -144,7 +198,7 @@ module _ (P : ℕ → Mac → Type 0) where
     given = λ listed are. subst (λ gs. AllByRecursion IsOfHere gs) (sym q.none) tt;
     covers = λ listed x g is. inl (q.covers x g is);
     there = λ listed. q.there;
-    told = λ listed. words_weaker (λ y. ⊥) (IsToldWell v (givings s.acts)) (λ y it. absurd it) (told_by s.acts) q.told;
+    newly = λ listed. subst (λ gs. AllByRecursion (IsNewlyGiven v s.view) gs) (sym q.none) tt;
     frees_none = q.frees_none;
     few = λ listed few. q.few few;
     sources = λ are port source is. are port source (ap (λ (ss : List (Option Source)). get_or ss port None) (sym q.remembered) ∙ is);
@@ -157,7 +211,6 @@ module _ (P : ℕ → Mac → Type 0) where
         let mid = b.covers x g is in let first = a.covers x mid.grant mid.found in
         record { grant = first.grant; found = first.found; to = first.to ∙ mid.to; held = first.held ∙ mid.held };
     there = λ x g is. let it = a.there x g is in b.there x it.0 it.1;
-    told = told_both (λ y. ⊥) s.acts (next s.view).acts a.told b.told;
     frees_none = all_append FreesNone s.acts (next s.view).acts a.frees_none b.frees_none;
     none = givings_append s.acts (next s.view).acts ∙ ap (λ gs. gs ++ givings (next s.view).acts) a.none ∙ b.none;
     listed = b.listed;
@@ -181,19 +234,10 @@ module _ (P : ℕ → Mac → Type 0) where
           | inr now ↦ inr (second_part (givings s.acts) (givings (next s.view).acts) (gives x g.amac) now)
         ]);
     there = λ listed x g is. let it = a.there listed x g is in b.there (a.listed listed) x it.0 it.1;
-    told = λ listed. subst (λ gs. AreToldOf (IsToldWell v gs) (s.acts ++ (next s.view).acts)) (sym (givings_append s.acts (next s.view).acts))
-        (let xs = givings s.acts in let ys = givings (next s.view).acts in
-        told_both (IsToldWell v (xs ++ ys)) s.acts (next s.view).acts
-        (words_weaker (IsToldWell v xs) (IsToldWell v (xs ++ ys))
-        (λ x it. (it.0, elim it.1 [ inl used ↦ inl used | inr one ↦ inr (first_part xs ys (gives x it.0) one) ])) (told_by s.acts) (a.told listed))
-        (words_weaker (IsToldWell s.view ys) (IsToldWell v (xs ++ ys))
-        (λ x it. (
-          it.0,
-          elim it.1 [
-            | inl used ↦ elim (a.last listed x it.0 used).from [ inl was ↦ inl was | inr one ↦ inr (first_part xs ys (gives x it.0) one) ]
-            | inr one ↦ inr (second_part xs ys (gives x it.0) one)
-          ],
-        )) (told_by (next s.view).acts) (b.told (a.listed listed))));
+    fresh = λ listed. subst (λ gs. AllByRecursion (IsFresh v) gs) (sym (givings_append s.acts (next s.view).acts))
+        (all_append (IsFresh v) (givings s.acts) (givings (next s.view).acts) (a.fresh listed)
+        (all_weaker (IsFresh s.view) (IsFresh v) (λ g is. live_still v s.view (givings s.acts) (a.there listed) (a.covers listed) (a.used listed) g.pmac is)
+        (givings (next s.view).acts) (b.fresh (a.listed listed))));
     frees_none = all_append FreesNone s.acts (next s.view).acts a.frees_none b.frees_none;
     listed = λ listed. b.listed (a.listed listed);
     few = λ listed few. b.few (a.listed listed) (a.few listed few);
@@ -203,7 +247,8 @@ module _ (P : ℕ → Mac → Type 0) where
         (b.last (a.listed listed) x mac is));
     first = λ listed. subst (λ gs. AllByRecursion (IsFirstThere v) gs) (sym (givings_append s.acts (next s.view).acts))
         (all_append (IsFirstThere v) (givings s.acts) (givings (next s.view).acts) (a.first listed)
-        (all_weaker (IsFirstThere s.view) (IsFirstThere v) (λ f free y is port. free y (a.stays listed y f.mac is) port) (givings (next s.view).acts) (b.first (a.listed listed))));
+        (all_weaker (IsFirstThere s.view) (IsFirstThere v) (λ f free y is port. free y (a.stays listed y f.mac is) port) (givings (next s.view).acts)
+        (b.first (a.listed listed))));
     used = λ listed. subst (λ gs. AllByRecursion (IsUsedThen (next s.view).view) gs) (sym (givings_append s.acts (next s.view).acts))
         (all_append (IsUsedThen (next s.view).view) (givings s.acts) (givings (next s.view).acts)
         (all_weaker (IsUsedThen s.view) (IsUsedThen (next s.view).view) (λ f is. b.stays (a.listed listed) f.pmac f.mac is) (givings s.acts) (a.used listed))
@@ -213,7 +258,8 @@ module _ (P : ℕ → Mac → Type 0) where
     k = b.k ∙ a.k;
   }
 
-  pub takes_either : (v : SwitchView) (test : Bool) (s t : SwitchStep) → (test ≡ true → Takes v s) → (test ≡ false → Takes v t) → Takes v (if test then s else t)
+  pub takes_either : (v : SwitchView) (test : Bool) (s t : SwitchStep) → (test ≡ true → Takes v s) → (test ≡ false → Takes v t) →
+      Takes v (if test then s else t)
   takes_either v true s t a b = a refl
   takes_either v false s t a b = b refl
 
@@ -221,7 +267,8 @@ module _ (P : ℕ → Mac → Type 0) where
   same_listed v w place k grants freed l = record {
     many = ap (λ (gs : List (List Grant)). length gs) grants ∙ l.many ∙ sym k;
     many_freed = ap (λ (fs : List (List ℕ)). length fs) freed ∙ l.many_freed ∙ sym k;
-    empty = λ unsettled port. ap (λ (gs : List (List Grant)). get_or gs port []) grants ∙ l.empty (ap (λ (p : Place). is_settled p) (sym place) ∙ unsettled) port;
+    empty = λ unsettled port. ap (λ (gs : List (List Grant)). get_or gs port []) grants ∙ l.empty
+        (ap (λ (p : Place). is_settled p) (sym place) ∙ unsettled) port;
     free = λ port.
         subst (λ (fs : List ℕ). AreFreeVmids (grants_at w port) fs) (ap (λ (fs : List (List ℕ)). get_or fs port []) (sym freed))
         (subst (λ (gs : List Grant). AreFreeVmids gs (freed_at v port)) (ap (λ (gs : List (List Grant)). get_or gs port []) (sym grants)) (l.free port));
@@ -233,7 +280,7 @@ module _ (P : ℕ → Mac → Type 0) where
     given = λ listed are. subst (λ gs. AllByRecursion IsOfHere gs) (sym (none_given s.acts a.silent)) tt;
     covers = λ listed x g is. inl (was_so v x g (sym (λ i. granted (record v { place = a.place i; grants = a.grants i }) x) ∙ is));
     there = λ listed x g is. (g, (λ i. granted (record v { place = a.place i; grants = a.grants i }) x) ∙ is);
-    told = λ listed. silent_told (IsToldWell v (givings s.acts)) s.acts a.silent;
+    fresh = λ listed. subst (λ gs. AllByRecursion (IsFresh v) gs) (sym (none_given s.acts a.silent)) tt;
     frees_none = silent_frees_none s.acts a.silent;
     listed = same_listed v s.view a.place a.k a.grants a.freed;
     few = λ listed few port. subst (λ (gs : List (List Grant)). length (get_or gs port []) ≤ 65535) (sym a.grants) (few port);
@@ -251,7 +298,6 @@ module _ (P : ℕ → Mac → Type 0) where
   quiets_aside v s listed a = record {
     covers = λ x g is. was_so v x g (sym (λ i. granted (record v { place = a.place i; grants = a.grants i }) x) ∙ is);
     there = λ x g is. (g, (λ i. granted (record v { place = a.place i; grants = a.grants i }) x) ∙ is);
-    told = silent_told (λ y. ⊥) s.acts a.silent;
     frees_none = silent_frees_none s.acts a.silent;
     none = none_given s.acts a.silent;
     listed = same_listed v s.view a.place a.k a.grants a.freed listed;
@@ -270,7 +316,7 @@ module _ (P : ℕ → Mac → Type 0) where
     given = λ listed are. tt;
     covers = λ listed x g is. inl (was_so v x g is);
     there = λ listed x g is. (g, is);
-    told = λ listed. tt;
+    fresh = λ listed. tt;
     frees_none = tt;
     listed = λ l. record { many = l.many; many_freed = l.many_freed; empty = l.empty; free = l.free };
     few = λ listed few. few;
@@ -300,12 +346,14 @@ module _ (P : ℕ → Mac → Type 0) where
     free = λ at. elim (cases_eq at port) [
       | inl here ↦
           subst (λ (n : ℕ). AreFreeVmids (grants_at (with_grants v port new) n) (freed_at v n)) (sym here)
-          (subst (λ (gs : List Grant). AreFreeVmids gs (freed_at v port)) (sym (get_or-set_same v.grants port new [] (subst (λ n. port < n) (sym l.many) within))) free)
+          (subst (λ (gs : List Grant). AreFreeVmids gs (freed_at v port))
+          (sym (get_or-set_same v.grants port new [] (subst (λ n. port < n) (sym l.many) within))) free)
       | inr other ↦ subst (λ (gs : List Grant). AreFreeVmids gs (freed_at v at)) (sym (get_or-set_other v.grants port at new [] other)) (l.free at)
     ];
   }
 
-  listed_with_free : (v : SwitchView) (port : ℕ) (new : List Grant) (freed : List ℕ) → is_settled v.place ≡ true → port < v.k → AreFreeVmids new freed → IsListed v →
+  listed_with_free : (v : SwitchView) (port : ℕ) (new : List Grant) (freed : List ℕ) → is_settled v.place ≡ true → port < v.k → AreFreeVmids new freed →
+      IsListed v →
       IsListed (record (with_grants v port new) { freed = set v.freed port freed })
   listed_with_free v port new freed settled within free l = record {
     many = length-set v.grants port new ∙ l.many;
@@ -314,7 +362,8 @@ module _ (P : ℕ → Mac → Type 0) where
     free = λ at. elim (cases_eq at port) [
       | inl here ↦
           subst (λ (n : ℕ). AreFreeVmids (get_or (set v.grants port new) n []) (get_or (set v.freed port freed) n [])) (sym here)
-          (subst (λ (gs : List Grant). AreFreeVmids gs (get_or (set v.freed port freed) port [])) (sym (get_or-set_same v.grants port new [] (subst (λ n. port < n) (sym l.many) within)))
+          (subst (λ (gs : List Grant). AreFreeVmids gs (get_or (set v.freed port freed) port []))
+          (sym (get_or-set_same v.grants port new [] (subst (λ n. port < n) (sym l.many) within)))
           (subst (λ (fs : List ℕ). AreFreeVmids new fs) (sym (get_or-set_same v.freed port freed [] (subst (λ n. port < n) (sym l.many_freed) within))) free))
       | inr other ↦
           subst (λ (gs : List Grant). AreFreeVmids gs (get_or (set v.freed port freed) at [])) (sym (get_or-set_other v.grants port at new [] other))
@@ -323,7 +372,8 @@ module _ (P : ℕ → Mac → Type 0) where
   }
 
   -- the next address of a port
-  long_next : (freed : List ℕ) (grants : List Grant) (g : Grant) (vmid : ℕ) → next_vmid freed grants ≡ Some vmid → length grants ≤ 65535 → length (with_next freed grants g) ≤ 65535
+  long_next : (freed : List ℕ) (grants : List Grant) (g : Grant) (vmid : ℕ) → next_vmid freed grants ≡ Some vmid → length grants ≤ 65535 →
+      length (with_next freed grants g) ≤ 65535
   long_next (v ∷ freed) grants g vmid is few = let same = length-set grants (v - 1) g in omega (arith, same, few)
   long_next [] grants g vmid is few = by (nat_lt (length grants) 65535) refl is
     where
@@ -370,7 +420,7 @@ module _ (P : ℕ → Mac → Type 0) where
         | inl it ↦ (new_grant mac ip, ap (λ z. granted (with_grants v port new) z) it ∙ now listed)
         | inr other ↦ (g, others listed y other ∙ is)
       ];
-      told = λ listed. ((mac, inr (inl refl)), tt);
+      fresh = λ listed. (nobodys listed (grant_number (grants_at v port) vmid) refl, tt);
       frees_none = (tt, (tt, tt));
       listed = λ listed.
           let l = listed_with_free v port new (all_but_first (freed_at v port)) settled within (next_is listed).left listed in
@@ -380,7 +430,8 @@ module _ (P : ℕ → Mac → Type 0) where
       sources = λ are. are;
       last = λ listed y m is. elim (is_or_other y x) [
         | inl it ↦
-            let grant : new_grant mac ip ≡ is.grant = same_Some (new_grant mac ip) is.grant (sym (now listed) ∙ ap (λ z. granted (with_grants v port new) z) (sym it) ∙ is.found) in
+            let grant : new_grant mac ip ≡ is.grant = same_Some (new_grant mac ip) is.grant
+            (sym (now listed) ∙ ap (λ z. granted (with_grants v port new) z) (sym it) ∙ is.found) in
             let host : mac ≡ m = ap (λ (q : Grant). q.amac) grant ∙ is.to in
             record { only = ((λ mine at. sym it), tt); from = inr (inl ((λ i. gives (sym it i) mac) ∙ (λ i. gives y (host i)))) }
         | inr other ↦
@@ -391,13 +442,22 @@ module _ (P : ℕ → Mac → Type 0) where
       used = λ listed. (record { grant = new_grant mac ip; found = now listed; used = refl; to = refl }, tt);
       stays = λ listed y m is. elim (is_or_other y x) [
         | inl it ↦
-            absurd ((next_is listed).unheld is.grant (sym (granted_here v x here) ∙ ap (λ z. granted v z) (sym it) ∙ is.found) (held_in_use is.grant.held is.used))
+            absurd ((next_is listed).unheld is.grant (sym (granted_here v x here) ∙ ap (λ z. granted v z) (sym it) ∙ is.found)
+            (held_in_use is.grant.held is.used))
         | inr other ↦ record { grant = is.grant; found = others listed y other ∙ is.found; used = is.used; to = is.to }
       ];
       settled = λ is. is;
       k = refl;
     }
       where
+        nobodys : IsListed v → (o : Option Grant) → grant_number (grants_at v port) vmid ≡ o → is_live v x ≡ false
+        nobodys listed None is = ap (λ (q : Option Grant). is_held_there (option_map (λ (g : Grant). g.held) q)) (granted_here v x here ∙ is)
+        nobodys listed (Some g) is = elim (cases_Bool (is_held g.held)) [
+          | inr free ↦ ap (λ (q : Option Grant). is_held_there (option_map (λ (h : Grant). h.held) q)) (granted_here v x here ∙ is) ∙ sym (is_as_there g.held)
+              ∙ free
+          | inl held ↦ absurd ((next_is listed).unheld g is held)
+        ]
+
         held_in_use : (h : AddressUse) → is_in_use h ≡ true → is_held h ≡ true
         held_in_use h used = ap is_held (in_use_for h used).1
 
@@ -407,7 +467,8 @@ module _ (P : ℕ → Mac → Type 0) where
   grants_next_takes v port mac ip settled within of_it none (Some vmid) is = next_takes v port mac ip vmid settled within is of_it none
 
   -- ---- an address that was granted is changed, and stays the host's
-  module _ (v : SwitchView) (x : Pmac) (g h : Grant) (here : is_local v x ≡ true) (settled : is_settled v.place ≡ true) (within : x.port < v.k) (was : granted v x ≡ Some g)
+  module _ (v : SwitchView) (x : Pmac) (g h : Grant) (here : is_local v x ≡ true) (settled : is_settled v.place ≡ true) (within : x.port < v.k)
+      (was : granted v x ≡ Some g)
       (same : h.amac ≡ g.amac) (held : is_held g.held ≡ true) (still : is_held h.held ≡ true) where
     abbrev list : List Grant
     list = set (grants_at v x.port) (x.vmid - 1) h
@@ -423,7 +484,8 @@ module _ (P : ℕ → Mac → Type 0) where
 
     changed_others : IsListed v → (y : Pmac) → same_pmac y x ≡ false → granted (with_grants v x.port list) y ≡ granted v y
     changed_others listed =
-        others_at v x list (many listed) here (λ n apart. number_set_other (grants_at v x.port) x.vmid n h (number_within (grants_at v x.port) x.vmid g found_there).0 apart)
+        others_at v x list (many listed) here (λ n apart. number_set_other (grants_at v x.port) x.vmid n h
+        (number_within (grants_at v x.port) x.vmid g found_there).0 apart)
 
     covered : IsListed v → (y : Pmac) (q : Grant) → granted (with_grants v x.port list) y ≡ Some q → WasGranted v y q
     covered listed y q is = elim (is_or_other y x) [
@@ -446,7 +508,8 @@ module _ (P : ℕ → Mac → Type 0) where
 
     listed_then : IsListed v → IsListed (with_grants v x.port list)
     listed_then listed =
-        listed_with v x.port list settled within (held_free (grants_at v x.port) (freed_at v x.port) x.vmid g h (listed.free x.port) found_there held still) listed
+        listed_with v x.port list settled within (held_free (grants_at v x.port) (freed_at v x.port) x.vmid g h
+        (listed.free x.port) found_there held still) listed
 
     few_still : IsListed v → AreFew v → AreFew (with_grants v x.port list)
     few_still listed few =
@@ -481,21 +544,23 @@ module _ (P : ℕ → Mac → Type 0) where
       ]
 
       -- with an order of use, and words that tell this address alone
-      pub changed_takes : (w : SwitchView) (acts : List Act) → w ≡ record (with_grants v x.port list) { used = w.used; trapped = w.trapped } → givings acts ≡ [] →
-          AllByRecursion FreesNone acts → AreToldOf (λ y. (mac : Mac) × IsUsedAt v y mac) acts → Takes v (record { view = w; acts = acts })
-      changed_takes w acts view none frees told =
+      pub changed_takes : (w : SwitchView) (acts : List Act) → w ≡ record (with_grants v x.port list) { used = w.used; trapped = w.trapped } →
+          givings acts ≡ [] →
+          AllByRecursion FreesNone acts → Takes v (record { view = w; acts = acts })
+      changed_takes w acts view none frees =
           subst (λ (u : SwitchView). Takes v (record { view = u; acts = acts })) (sym view) (record {
             given = λ listed are. subst (λ gs. AllByRecursion IsOfHere gs) (sym none) tt;
             covers = λ listed y q is. inl (covered listed y q is);
             there = there_still;
-            told = λ listed. words_weaker (λ y. (mac : Mac) × IsUsedAt v y mac) (IsToldWell v (givings acts)) (λ y it. (it.0, inl it.1)) (told_by acts) told;
+            fresh = λ listed. subst (λ gs. AllByRecursion (IsFresh v) gs) (sym none) tt;
             frees_none = frees;
             listed = λ listed. let l = listed_then listed in record { many = l.many; many_freed = l.many_freed; empty = l.empty; free = l.free };
             few = few_still;
             sources = λ are. are;
             last = λ listed y mac is. subst (λ gs. IsTheLast v gs y mac) (sym none) (record { only = tt; from = inl (used_before listed y mac is) });
             first = λ listed. subst (λ gs. AllByRecursion (IsFirstThere v) gs) (sym none) tt;
-            used = λ listed. subst (λ gs. AllByRecursion (IsUsedThen (record (with_grants v x.port list) { used = w.used; trapped = w.trapped })) gs) (sym none) tt;
+            used = λ listed. subst (λ gs. AllByRecursion (IsUsedThen (record (with_grants v x.port list) { used = w.used; trapped = w.trapped })) gs)
+                (sym none) tt;
             stays = used_still;
             settled = λ is. is;
             k = refl;
@@ -511,13 +576,13 @@ module _ (P : ℕ → Mac → Type 0) where
         | inr other ↦ record { grant = is.grant; found = sym (changed_others listed y other) ∙ is.found; used = is.used; to = is.to }
       ]
 
-      pub unused_quiets : IsListed v → (w : SwitchView) (acts : List Act) → w ≡ record (with_grants v x.port list) { used = w.used; trapped = w.trapped } → givings acts ≡ [] →
-          AllByRecursion FreesNone acts → AreToldOf (λ y. ⊥) acts → Quiets v (record { view = w; acts = acts })
-      unused_quiets listed w acts view none frees told =
+      pub unused_quiets : IsListed v → (w : SwitchView) (acts : List Act) → w ≡ record (with_grants v x.port list) { used = w.used; trapped = w.trapped } →
+          givings acts ≡ [] →
+          AllByRecursion FreesNone acts → Quiets v (record { view = w; acts = acts })
+      unused_quiets listed w acts view none frees =
           subst (λ (u : SwitchView). Quiets v (record { view = u; acts = acts })) (sym view) (record {
             covers = covered listed;
             there = there_still listed;
-            told = told;
             frees_none = frees;
             none = none;
             listed = let l = listed_then listed in record { many = l.many; many_freed = l.many_freed; empty = l.empty; free = l.free };

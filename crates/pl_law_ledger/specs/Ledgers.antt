@@ -1,6 +1,6 @@
 -- What the journal says of addresses is what the switches granted and the fabric manager registered.
-use Rattle.std.specs.Prelude.{◌≡◌, ◌≤◌, ◌<◌, ℕ, ◌^◌, true, List, [], ◌∷◌, length, reverse, Some, None, slice_get}
-use Rattle.std.specs.List.{AllByRecursion, list_any}
+use Rattle.std.specs.Prelude.{◌≡◌, ◌≤◌, ◌<◌, ℕ, ◌^◌, true, List, [], ◌∷◌, length, reverse, Some, slice_get}
+use Rattle.std.specs.List.{AllByRecursion}
 use Rattle.pl_frame.specs.declared.address.Mac.{Mac}
 use Rattle.pl_pmac.specs.declared.pmac.Pmac.{Pmac}
 use Rattle.pl_pmac.specs.Pmac.{PmacFits, pmac_number}
@@ -11,18 +11,14 @@ use Rattle.pl_journal.specs.declared.entry.Entry.{Entry}
 use Rattle.pl_journal.specs.declared.entry.Entry.TheVariants.{Freed, Granted, Moved, Registered}
 use Rattle.pl_journal.specs.Places.{EdgePort, at_port, granted_at, has_stood, highest, holder, is_live, number, edge_port}
 use Rattle.pl_node.specs.AddressUses.{is_held, is_in_use}
-use Rattle.pl_node.specs.declared.messages.ToManager.{ToManager}
 use Rattle.pl_node.specs.declared.switch_records.Grant.{Grant}
 use Rattle.pl_node.specs.declared.switch_records.Source.{Source}
-use Rattle.pl_node.specs.ManagerViews.{Learnt}
+use Rattle.pl_node.specs.ManagerViews.{Learnt, Registration, registration}
 use Rattle.pl_node.specs.SwitchViews.{SwitchView}
-use Rattle.pl_queues.specs.Queues.{items_at}
 use Rattle.pl_switch_rule.specs.Granting.{granted, grants_at, is_local, remembered_at}
 use Rattle.pl_world.specs.declared.attachment.AttachmentPoint.{AttachmentPoint}
 use Rattle.pl_world.specs.Changes.{host_of}
 use Rattle.pl_world.specs.Worlds.{WorldView}
-use Rattle.pl_law_addresses.specs.EdgeAddresses.{tells}
-use Rattle.pl_law_addresses.specs.Registries.{number_of, registry_of}
 
 -- the entries that grant, free or register an address, or move a host; the newest stands first
 abbrev pub ledger : List Entry → List Entry
@@ -61,8 +57,7 @@ abbrev pub IsBacked : List SwitchView → Entry → Type 0
 IsBacked switches (Granted x h e p) = IsGrantedThere switches x e.0 p
 IsBacked switches entry = Unit {0}
 
-pub record AreEntered (plan : Plan)
-    (learnt : Learnt) (switches : List SwitchView) (attachments : List AttachmentPoint) (up : List (List ToManager)) (entries : List Entry) : Type 0 where
+pub record AreEntered (plan : Plan) (learnt : Learnt) (switches : List SwitchView) (attachments : List AttachmentPoint) (entries : List Entry) : Type 0 where
   -- each address that a switch granted is written down, and each one that is written down is granted
   pub grants : (s : ℕ) (v : SwitchView) (x : Pmac) (g : Grant) → slice_get switches s ≡ Some v → granted v x ≡ Some g → IsEntered plan entries s x g
   pub backed : AllByRecursion (IsBacked switches) entries
@@ -76,10 +71,8 @@ pub record AreEntered (plan : Plan)
       HasStoodThere plan entries source.amac (at_port s port)
   -- where a host stands is written down
   pub standing : (h : ℕ) (attachment : AttachmentPoint) → slice_get attachments h ≡ Some attachment → has_stood plan entries h (at_port attachment.edge.0 attachment.port) ≡ true
-  -- a registered address has its number there, and one that waits to be registered has none
-  pub numbers : (x : Pmac) (n : ℕ) → PmacFits x → number_of (registry_of learnt) x ≡ Some n → number entries (pmac_number x) ≡ Some n
-  pub unnumbered : (s : ℕ) (x : Pmac) → PmacFits x → list_any (tells x) (items_at up s) ≡ true → number_of (registry_of learnt) x ≡ None →
-      number entries (pmac_number x) ≡ None
+  -- a registered address has its number there
+  pub numbers : (x : Pmac) (reg : Registration) → PmacFits x → registration learnt x ≡ Some reg → number entries (pmac_number x) ≡ Some reg.number
   -- an address with a number was granted
   pub numbered : (n m : ℕ) → number entries n ≡ Some m → (h : ℕ) × (holder entries n ≡ Some h)
   -- no number is above the last one that the manager gave
@@ -87,7 +80,12 @@ pub record AreEntered (plan : Plan)
 
 -- So it is in a world.
 abbrev pub IsLedger : WorldView → Type 0
-IsLedger w = AreEntered w.plan w.manager.learnt w.switches w.attachments w.to_manager (ledger (reverse w.journal))
+IsLedger w = AreEntered w.plan w.manager.learnt w.switches w.attachments (ledger (reverse w.journal))
+
+-- The numbers of an epoch are above those of all epochs before, since fewer steps are made than an epoch has numbers: so much is asked of a world's limit,
+-- and each fabric that starts has one like that.
+abbrev pub WhereNumbersSuffice : (WorldView → Type 0) → WorldView → Type 0
+WhereNumbersSuffice Holds w = w.limits.steps ≤ 4000000000 → Holds w
 
 -- What is needed of other parts: pods and positions of placed edge switches are numbers of one byte.
 pub record IsOfOneByteEach (x : Pmac) : Type 0 where

@@ -1,4 +1,4 @@
-ghost use Rattle.std.specs.Prelude.{◌≡◌, ℕ, Some, reverse, slice_get, true};
+ghost use Rattle.std.specs.Prelude.{◌≡◌, ℕ, None, Some, reverse, slice_get, true};
 ghost use Rattle.pl_wiring.specs.Plan.{Plan};
 ghost use Rattle.pl_pmac.specs.declared.pmac.Pmac.{Pmac};
 ghost use Rattle.pl_journal.specs.Places.{at_port, granted_at};
@@ -7,18 +7,17 @@ ghost use Rattle.pl_node.specs.declared.switch_records.Grant.{Grant};
 ghost use Rattle.pl_node.specs.SwitchViews.{SwitchView};
 ghost use Rattle.pl_switch_rule.specs.Granting.{granted};
 ghost use Rattle.pl_world.specs.Changes.{host_of};
-ghost use Rattle.pl_manager_rule.specs.ManagerRule.{manager_rule};
+ghost use Rattle.pl_manager_rule.specs.WholeRule.{whole_rule};
 ghost use Rattle.pl_switch_rule.specs.SwitchRule.{Loose};
 ghost use Rattle.pl_world.specs.declared.event.Event.{Event};
 ghost use Rattle.pl_world.specs.declared.limits.Limits.{Limits};
 ghost use Rattle.pl_world.specs.Booting.{booted};
-ghost use Rattle.pl_world.specs.Flying.{IsCounted};
+ghost use Rattle.pl_world.specs.Refusals.{refusal};
 ghost use Rattle.pl_world.specs.WorldRule.{WorldStep};
 ghost use Rattle.pl_world.specs.Worlds.{WorldView};
-ghost use Rattle.pl_law_control_plane.specs.HostsAtEdges.{HostsAtEdges};
-ghost use Rattle.pl_law_addresses.specs.Addressed.{AreApart, IsGrounded};
-ghost use Rattle.pl_law_addresses.specs.InOrder.{AddressesAreInOrder};
-ghost use Rattle.pl_law_ledger.specs.Ledgers.{AreInBounds, IsLedger, ledger};
+ghost use Rattle.pl_law_invariant.specs.ControlInvariant.{ControlInvariant};
+ghost use Rattle.pl_law_ledger.specs.Leading.{HoldsLedger};
+ghost use Rattle.pl_law_ledger.specs.Ledgers.{IsLedger, ledger};
 
 use pl_node::HostLogic;
 
@@ -27,13 +26,12 @@ pub fn the_ledger_begins_empty()
     ensures { (plan : Plan) (limits : Limits) → IsLedger (booted plan limits) }
 {}
 
-/// Each step keeps it that the journal says of addresses what the switches granted and the fabric manager
-/// registered, whichever candidates the switches choose, where hosts stand at edge switches, addresses are in
-/// order, placed edge switches stand apart, and their pods and positions are numbers of one byte.
+/// Each step keeps it that the journal says of addresses what the switches granted and the fabric manager registered, a
+/// restart of the manager too, and that each trap which is set leads to a larger number: whichever candidates the switches
+/// choose, where all is kept that is kept in every run, and as long as no more steps are made than an epoch has numbers.
 pub fn each_step_keeps_the_ledger<H: HostLogic>()
-    ensures { (old : WorldView) (event : Event) (new : WorldView) → IsCounted old → IsCounted new → HostsAtEdges old → AddressesAreInOrder old → IsGrounded old →
-        AreApart new.switches → AreInBounds old.switches → AreInBounds new.switches → WorldStep Loose manager_rule H.rule old event new →
-        IsLedger old → IsLedger new }
+    ensures { (old : WorldView) (event : Event) (new : WorldView) → ControlInvariant old → ControlInvariant new →
+        refusal old event ≡ None → WorldStep Loose whole_rule H.rule old event new → HoldsLedger old → HoldsLedger new }
 {}
 
 /// The address that a host has in use at a port is the last that was granted to it there, as the journal says.

@@ -12,9 +12,10 @@ use Rattle.pl_node.specs.SwitchInputs.{SwitchInput, SwitchRule}
 use Rattle.pl_world.specs.declared.spoken_frame.SpokenFrame.{SpokenFrame}
 use Rattle.pl_world.specs.declared.attachment.AttachmentPoint.{AttachmentPoint}
 use Rattle.pl_world.specs.LinksAndMoves.{host_moved, link_failed, link_repaired}
+use Rattle.pl_world.specs.Restarting.{manager_restarted}
 use Rattle.pl_world.specs.WorldRule.{ManagerTurn, SwitchTurn}
 use Rattle.pl_world.specs.Worlds.{WorldView}
-use Rattle.pl_world.proofs.Exports.{empties_of, failed_left, manager_acts_left, moved_left, repaired_left, switch_acts_left, SwitchesWrite, Takes, Writes}
+use Rattle.pl_world.proofs.Exports.{anew_left, empties_of, failed_left, manager_acts_left, moved_left, repaired_left, switch_acts_left, SwitchesWrite, Takes, Writes}
 
 -- no host's frame
 abbrev pub IsUnsent : Entry → Type 0
@@ -140,3 +141,6 @@ failed_leaves w link = failed_left Leaves IsUnsent leaves_writes (λ u i. leaves
 
 pub repaired_leaves : (w : WorldView) (link : Link) → Leaves w (link_repaired w link)
 repaired_leaves w link = repaired_left Leaves IsUnsent leaves_writes w link tt (λ u links. beside u _ refl refl)
+
+pub restarted_leaves : (w : WorldView) → Leaves w (manager_restarted w)
+restarted_leaves w = anew_left Leaves IsUnsent leaves_writes w tt (λ u n. beside u _ refl refl)

@@ -21,12 +21,13 @@ use Rattle.pl_world.specs.declared.attachment.AttachmentPoint.{AttachmentPoint}
 use Rattle.pl_world.specs.Changes.{host_no}
 use Rattle.pl_world.specs.LinksAndMoves.{host_moved, link_failed, link_repaired}
 use Rattle.pl_world.specs.OtherActs.{host_act_done}
+use Rattle.pl_world.specs.Restarting.{manager_restarted}
 use Rattle.pl_world.specs.WorldRule.{Happens, HostTurn}
 use Rattle.pl_world.specs.Worlds.{WorldView}
 use Rattle.pl_world.proofs.Exports.{all_found, Turned, turned}
-use Rattle.pl_world.proofs.Exports.Turned.{NoTurn, OfFailed, OfHost, OfManager, OfMoved, OfRepaired, OfSwitch}
+use Rattle.pl_world.proofs.Exports.Turned.{NoTurn, OfFailed, OfHost, OfManager, OfMoved, OfRepaired, OfRestarted, OfSwitch}
 use Rattle.pl_law_members.specs.Joined.{HaveJoined}
-use Rattle.pl_law_members.proofs.HostsLeftAlone.{IsUnsent, Leaves, failed_leaves, joined_kept, leaves_takes, leaves_then, leaves_writes, manager_leaves, moved_leaves, repaired_leaves, turn_leaves}
+use Rattle.pl_law_members.proofs.HostsLeftAlone.{IsUnsent, Leaves, failed_leaves, joined_kept, leaves_takes, leaves_then, leaves_writes, manager_leaves, moved_leaves, repaired_leaves, restarted_leaves, turn_leaves}
 
 -- where hosts are as they were, and no frame of theirs was written
 pub left_joined : (w new : WorldView) → Leaves w new → HaveJoined w → HaveJoined new
@@ -96,6 +97,7 @@ module _ (rule : HostRule) (joins : HostsJoinBySending rule) where
         host_joined (host_moved w h.0 from to) h.0 _ _ new holding (left_joined w (host_moved w h.0 from to) (moved_leaves w h.0 from to) told) turn
     by_turn (OfFailed a b link is found fails) = subst HaveJoined (sym fails) (left_joined w (link_failed w link) (failed_leaves w link) told)
     by_turn (OfRepaired a b link is found repairs) = subst HaveJoined (sym repairs) (left_joined w (link_repaired w link) (repaired_leaves w link) told)
+    by_turn (OfRestarted is anew) = subst HaveJoined (sym anew) (left_joined w (manager_restarted w) (restarted_leaves w) told)
 
     pub happens_joined : Happens switch manager rule w happens new → HaveJoined new
     happens_joined does =

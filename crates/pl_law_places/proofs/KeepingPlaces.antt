@@ -1,5 +1,5 @@
 -- Each step of the control plane keeps places true, and they are true at the beginning.
-use Rattle.std.proofs.Common.{◌≡◌, ℕ, ◌<◌, Bool, true, false, if◌then◌else◌, List, [], ◌∷◌, ◌++◌, sym, ap, ◌∙◌, subst}
+use Rattle.std.proofs.Common.{◌≡◌, ℕ, ◌<◌, Bool, true, false, if◌then◌else◌, List, [], ◌∷◌, ◌++◌, refl, sym, ap, ◌∙◌, subst}
 use Rattle.std.specs.List.{AllByRecursion}
 use Rattle.pl_frame.specs.declared.address.SwitchId.{SwitchId}
 use Rattle.pl_layouts.specs.declared.control.Control.{Control}
@@ -19,6 +19,8 @@ use Rattle.pl_switch_rule.specs.SwitchRule.{IsChoice, Loose, control_comes, data
 use Rattle.pl_law_control_plane.specs.ControlPlanes.{AreAdjacent, ControlPlane, message_in, messages_of}
 use Rattle.pl_law_control_plane.specs.PlaneSteps.{IsLeft, IsOrderTaken, MessageIsTaken, ManagerTurns, PlaneStep, SwitchTurns}
 use Rattle.pl_law_control_plane.specs.PlaneSteps.PlaneStep.{Carried, Entered, Heard, Left, Managed, Ordered, Ticked}
+use Rattle.pl_law_control_plane.specs.Restarts.{IsAlike, OnPlane}
+use Rattle.pl_law_control_plane.specs.Restarts.OnPlane.{BeginsAnew, Steps}
 use Rattle.pl_law_places.specs.Places.{ArePlaced, ArePodNumbers, IsPodNumber, PositionsDiffer}
 use Rattle.pl_law_places.specs.Told.{IsGoodMessage, has_heard}
 use Rattle.pl_law_places.proofs.HostFramesKeepPlaces.{carried_turn, entered_turn}
@@ -129,3 +131,23 @@ module _ (manager : ManagerRule) (f g : ControlPlane) (is : IsPlan f.plan) (old 
   step_keeps (Entered s port frame edge within free data_frame turns) = entered_kept s port frame edge within free data_frame turns
   step_keeps (Ordered s says mid taken turns) = order_kept s says mid taken turns
   step_keeps (Managed s id told mid there named taken turns) = manager_kept id told mid (left_keeps f.plan f mid taken.left old) turns
+
+-- what is kept in a step, and where the manager begins anew
+pub places_on : (manager : ManagerRule) (f g : ControlPlane) → IsPlan f.plan → ArePlaced f.plan f → PositionsDiffer f.plan f → ArePodNumbers f → OnPlane Loose manager f g →
+    ArePlaced f.plan g
+places_on manager f g is placed differ numbers (Steps step) = step_keeps manager f g is placed differ numbers step.0
+places_on manager f g is placed differ numbers (BeginsAnew anew) = alike_placed f.plan f g anew.alike placed
+  where
+    alike_placed : (plan : Plan) (f g : ControlPlane) → IsAlike f g → ArePlaced plan f → ArePlaced plan g
+    alike_placed plan f g alike placed =
+        let like : ControlPlane = record g { reports = f.reports; orders = f.orders; manager = f.manager } in
+        let it = left_keeps plan f like (record {
+          plan = alike.plan;
+          view = alike.view;
+          says = λ s port. record { gone = []; split = sym (alike.says s port) };
+          carries = alike.carries;
+          reports = λ s. record { gone = []; split = refl };
+          orders = λ s. record { gone = []; split = refl };
+          manager = refl;
+        }) placed in
+        record { links = it.links; strangers = it.strangers; own = it.own; pods = it.pods; sound = it.sound }

@@ -3,4 +3,4 @@ pub use Rattle.pl_law_placing.proofs.Answering.{answered}
 pub use Rattle.pl_law_placing.proofs.AtRest.{world_first, world_pods, world_positions}
 pub use Rattle.pl_law_placing.proofs.Levels.{seen_later}
 pub use Rattle.pl_law_placing.proofs.PlacingInRuns.{run_places}
-pub use Rattle.pl_law_placing.proofs.Seeing.{step_seen}
+pub use Rattle.pl_law_placing.proofs.Seeing.{seen_on, step_seen}

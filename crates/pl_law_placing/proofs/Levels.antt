@@ -12,7 +12,7 @@ use Rattle.pl_node.specs.SwitchViews.{SwitchView}
 use Rattle.pl_journal.specs.declared.entry.Entry.TheVariants.{Crossed}
 use Rattle.pl_queues.specs.Queues.{items_at}
 use Rattle.pl_steps.specs.Steps.{SwitchStep}
-use Rattle.pl_manager_rule.specs.ManagerRule.{manager_rule}
+use Rattle.pl_manager_rule.specs.WholeRule.{whole_rule}
 use Rattle.pl_switch_rule.specs.SwitchRule.{Loose, control_comes, data_comes}
 use Rattle.pl_switch_rule.proofs.Exports.{loose_steps_are_accounted}
 use Rattle.pl_world.specs.declared.event.Event.{Event}
@@ -97,16 +97,17 @@ module _ (old : WorldView) (kept : ControlInvariant old) (new : WorldView) where
       comes_level h items item (slice_get old.attachments h) refl all.0 comes attachment at
 
   module _ (host : HostRule) where
-    entered_level : (happens : Event) → WorldStep Loose manager_rule host old happens new → (s : ℕ) → HostComesAt old happens s → ((control_plane new).view s).place.level ≡ Some 0
+    entered_level : (happens : Event) → WorldStep Loose whole_rule host old happens new → (s : ℕ) → HostComesAt old happens s →
+        ((control_plane new).view s).place.level ≡ Some 0
     entered_level (event.Deliver (queue.FromHost h)) step s at =
         subst (λ x. ((control_plane new).view x).place.level ≡ Some 0) at.2 (host_level h.0 (items_at old.from_hosts h.0) refl step at.0 at.1)
     entered_level happens step s at = absurd at
 
     -- a step
     pub step_levels : (happens : Event) → HaveCrossed (reverse old.journal) old.out old.begun → HaveLevels old → ((s : ℕ) → IsTrueOf ((control_plane old).view s).place ((control_plane new).view s).place) →
-        WorldStep Loose manager_rule host old happens new → HaveCrossed (reverse new.journal) new.out new.begun × HaveLevels new
+        WorldStep Loose whole_rule host old happens new → HaveCrossed (reverse new.journal) new.out new.begun × HaveLevels new
     step_levels happens crossed levels later step =
-        let goes = step_goes Loose manager_rule host old happens new kept.counted crossed step in (
+        let goes = step_goes Loose whole_rule host old happens new kept.counted crossed step in (
           goes.crossed,
           λ s h. elim (goes.received s h) [
             | inl before ↦ (later s).level 0 (levels s before)

@@ -29,8 +29,8 @@ use Rattle.pl_world.specs.OtherActs.{heard_after_tick, skip_noted}
 use Rattle.pl_world.specs.Runs.{IsMark}
 use Rattle.pl_world.specs.WorldRule.{ComesAtSwitch, HostTurn, SwitchTurn, WorldStep, heard_item}
 use Rattle.pl_world.specs.Worlds.{WorldView}
-use Rattle.pl_world.proofs.Exports.{all_at, failed_left, Happened, happened, host_acts_left, lost_left, manager_acts_left, moved_left, one, out_left, repaired_left, skip_left, times_in-data, times_in_all-set, within_queue, Writes}
-use Rattle.pl_world.proofs.Exports.Happened.{Asked, Departed, Failed, FromHost, Lost, Ordered, OutOfPort, OverLink, PlayedFrame, Repaired, Reported, Ticked}
+use Rattle.pl_world.proofs.Exports.{all_at, anew_left, failed_left, Happened, happened, host_acts_left, lost_left, manager_acts_left, moved_left, one, out_left, repaired_left, skip_left, times_in-data, times_in_all-set, within_queue, Writes}
+use Rattle.pl_world.proofs.Exports.Happened.{Asked, BeganAnew, Departed, Failed, FromHost, Lost, Ordered, OutOfPort, OverLink, PlayedFrame, Repaired, Reported, Ticked}
 use Rattle.pl_world.specs.Flying.{IsCounted, born, times_in}
 use Rattle.pl_law_placing.specs.Receiving.{HasCrossed, HaveCrossed, ItemHasCrossed, comes_from_host}
 use Rattle.pl_law_placing.proofs.Crossing.{GoesIn, HasLeft, IsStill, goes_entry, goes_noted, goes_on, goes_sent, goes_set, one_more, stepped_goes, still_dropped}
@@ -49,6 +49,9 @@ still_down a b = record { same_trail = λ past x. refl; same_sender = λ past x.
 
 still_up : (a b : SwitchNo) → IsStill (LinkUp a b)
 still_up a b = record { same_trail = λ past x. refl; same_sender = λ past x. refl; same_received = λ past x. refl }
+
+still_restarted : (n : ℕ) → IsStill (Restarted n)
+still_restarted n = record { same_trail = λ past x. refl; same_sender = λ past x. refl; same_received = λ past x. refl }
 
 still_moved : (h : HostNo) (s : SwitchNo) (port : ℕ) → IsStill (Moved h s port)
 still_moved h s port = record { same_trail = λ past x. refl; same_sender = λ past x. refl; same_received = λ past x. refl }
@@ -159,6 +162,8 @@ module _ (old : List Entry) (may : ℕ → Type 0) where
     by_case (PlayedFrame h input skip is turn) =
         turn_goes host (skip_noted w h.0 skip) h.0 _ _ new turn (skip_left Keeps IsStill keeps_writes (λ n why. still_skipped n.0 why) w h.0 skip g)
     by_case (Asked h input is turn) = turn_goes host w h.0 _ _ new turn g
+    by_case (BeganAnew is anew) =
+        subst GoesOn (sym anew) (anew_left Keeps IsStill keeps_writes w (still_restarted (w.manager.epoch + 1)) (λ u n on. on) g)
 
 -- A frame that waits at a host has a number that was given.
 given : (id many : ℕ) → 1 ≤ born id many → id ≤ many

@@ -1,4 +1,5 @@
--- What a step of the control plane is to one switch, where places are true: it steps quietly, it ticks, or it hears a message of a neighbour.
+-- What a step of the control plane is to one switch, where places are true: it steps quietly, it ticks, or it hears a message of a neighbour. To a
+-- restart of the manager it is nothing.
 use Rattle.std.proofs.Common.{◌≡◌, ℕ, ◌<◌, Bool, true, false, if◌then◌else◌, List, [], ◌∷◌, ◌++◌, Result, refl, sym, ◌∙◌, ap, subst, subst₂, arith, inl, inr}
 use Rattle.std.specs.List.{AllByRecursion}
 use Rattle.std.proofs.lemmas.Bool.{cases_eq}
@@ -19,6 +20,8 @@ use Rattle.pl_switch_rule.specs.SwitchRule.{Loose, control_comes, data_comes, he
 use Rattle.pl_law_control_plane.specs.ControlPlanes.{AreAdjacent, ControlPlane, message_in, messages_of}
 use Rattle.pl_law_control_plane.specs.PlaneSteps.{IsActed, IsLeft, MessageIsTaken, LeftOver, PlaneStep, SwitchTurns}
 use Rattle.pl_law_control_plane.specs.PlaneSteps.PlaneStep.{Carried, Entered, Heard, Left, Managed, Ordered, Ticked}
+use Rattle.pl_law_control_plane.specs.Restarts.{OnPlane}
+use Rattle.pl_law_control_plane.specs.Restarts.OnPlane.{BeginsAnew, Steps}
 use Rattle.pl_law_control_plane.proofs.Exports.{nothing_left}
 use Rattle.pl_law_places.specs.Places.{ArePlaced, ArePodNumbers, IsPodNumber, PositionsDiffer}
 use Rattle.pl_law_places.specs.Told.{IsGoodMessage, IsTrueOf, has_heard}
@@ -135,6 +138,11 @@ module _ (manager : ManagerRule) (f g : ControlPlane) (is : IsPlan f.plan) (old 
   step_seen (Managed s id told m there named taken turns) =
       Gone (λ t. turns.view t ∙ taken.left.view t)
       (λ t port. let queue = taken.left.says t port in record { gone = queue.gone; split = queue.split ∙ ap (λ xs. queue.gone ++ xs) (sym (turns.says t port)) })
+
+  -- and where the manager begins anew nothing changes at the switches
+  pub seen_on : OnPlane Loose manager f g → Seen f g
+  seen_on (Steps step) = step_seen step.0
+  seen_on (BeginsAnew anew) = Gone anew.alike.view (λ t port. record { gone = []; split = sym (anew.alike.says t port) })
 
 -- ids stay, and what is known of a place
 pub record IsGrown (old new : ℕ → SwitchView) : Type 0 where

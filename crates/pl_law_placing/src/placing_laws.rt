@@ -3,7 +3,7 @@ ghost use Rattle.pl_wiring.specs.declared.label.Label.TheVariants.{Edge};
 ghost use Rattle.pl_wiring.specs.Labels.{IsLabel};
 ghost use Rattle.pl_node.specs.SwitchFacts.{holder_of, is_news};
 ghost use Rattle.pl_node.specs.SwitchViews.{SwitchView};
-ghost use Rattle.pl_manager_rule.specs.ManagerRule.{manager_rule};
+ghost use Rattle.pl_manager_rule.specs.WholeRule.{whole_rule};
 ghost use Rattle.pl_switch_rule.specs.SwitchRule.{Loose};
 ghost use Rattle.pl_world.specs.declared.event.Event.{Event};
 ghost use Rattle.pl_world.specs.Refusals.{refusal};
@@ -18,15 +18,15 @@ ghost use Rattle.pl_law_placing.specs.Resting.{FirstKnowsPod, HasFirst, HavePosi
 
 use pl_node::HostLogic;
 
-/// Each step keeps edge switches on their way to their places.
+/// Each step keeps edge switches on their way to their places, a restart of the manager too.
 pub fn each_step_keeps_edge_switches_placing<H: HostLogic>()
     ensures { (old : WorldView) (event : Event) (new : WorldView) → ControlInvariant old → ArePlacing old → refusal old event ≡ None →
-        WorldStep Loose manager_rule H.rule old event new → ArePlacing new }
+        WorldStep Loose whole_rule H.rule old event new → ArePlacing new }
 {}
 
 /// So it is at each moment of each run from the beginning.
 pub fn every_run_keeps_edge_switches_placing<H: HostLogic>()
-    ensures { InEveryRun Loose manager_rule H.rule ArePlacing }
+    ensures { InEveryRun Loose whole_rule H.rule ArePlacing }
 {}
 
 /// In a pod at rest each edge switch that knows its level has a position.

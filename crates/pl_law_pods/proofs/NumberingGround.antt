@@ -16,7 +16,7 @@ use Rattle.pl_world.specs.Booting.{booted}
 use Rattle.pl_law_control_plane.specs.ControlPlanes.{ControlPlane, control_plane}
 use Rattle.pl_law_control_plane.proofs.Exports.{booted_view}
 use Rattle.pl_law_due.specs.Due.{due_plane, is_silent, words_of}
-use Rattle.pl_law_due.specs.DueSteps.{Restarts}
+use Rattle.pl_law_control_plane.specs.Restarts.{Restarts}
 use Rattle.pl_law_due.proofs.Exports.{none_loud, restart_due, restart_missing}
 use Rattle.pl_law_places.specs.Known.{IsZeroOf, pod_of}
 use Rattle.pl_law_places.specs.Places.{ArePlaced}

@@ -32,9 +32,11 @@ use Rattle.pl_switch_rule.specs.SwitchRule.{Loose}
 use Rattle.pl_law_control_plane.specs.ControlPlanes.{ControlPlane}
 use Rattle.pl_law_control_plane.specs.PlaneSteps.{IsReportTaken, ManagerTurns, WholeStep, ordered}
 use Rattle.pl_law_control_plane.proofs.Exports.{any_append}
+use Rattle.pl_law_control_plane.specs.Restarts.{OnPlane}
+use Rattle.pl_law_control_plane.specs.Restarts.OnPlane.{BeginsAnew, Steps}
 use Rattle.pl_law_due.specs.Due.{due_of, due_plane, is_hello, is_silent, read, words_of}
-use Rattle.pl_law_due.specs.Gathering.{GathersWell}
-use Rattle.pl_law_due.proofs.Exports.{ids_apart, named_there, step_gathers, there_named, whole_due}
+use Rattle.pl_law_due.specs.Gathering.{GathersWell, IsSized}
+use Rattle.pl_law_due.proofs.Exports.{ids_apart, named_there, restarts_here, step_gathers, there_named, whole_due}
 use Rattle.pl_law_places.specs.Places.{ArePlaced, ArePodNumbers, IsPodNumber}
 use Rattle.pl_law_places.specs.Told.{IsTrueOf}
 use Rattle.pl_law_places.proofs.Exports.{true_of_itself}
@@ -44,6 +46,7 @@ use Rattle.pl_law_pods.specs.Numbering.{AreNumbered, GivesApart, IsGivenPod, IsP
 use Rattle.pl_law_pods.specs.Numbering.PlaceComesFirst.{IsBehind, IsNext, WasKept}
 use Rattle.pl_law_pods.specs.Pods.{IsPodGiven, id_of}
 use Rattle.pl_law_pods.specs.Ways.{how_many, is_wish, one_if, own_pod}
+use Rattle.pl_law_pods.proofs.NumberingGround.{numbered_anew}
 use Rattle.pl_law_pods.proofs.Acting.{Acted, step_acted, SwitchActs, TakesOrder}
 use Rattle.pl_law_pods.proofs.Acting.Acted.{Manager, Nobody, Switch}
 use Rattle.pl_law_pods.proofs.Acting.TakesOrder.{AnOrder, NoOrder}
@@ -508,3 +511,9 @@ module _ (f g : ControlPlane) (is : IsPlan f.plan) (well : GathersWell f) (place
         gives = it.rest.gives;
         first = it.first;
       }
+
+-- in a step, and where the manager begins anew
+pub numbered_on : (f g : ControlPlane) → IsPlan f.plan → IsSized f → GathersWell f → ArePlaced f.plan f → FixedAreApart f.plan f.view → FixedAreApart f.plan g.view → AreNumbered f →
+    OnPlane Loose whole_rule f g → AreNumbered g
+numbered_on f g is size well placed apart apart_then all (Steps step) = numbered_kept f g is well placed apart apart_then all step
+numbered_on f g is size well placed apart apart_then all (BeginsAnew anew) = numbered_anew f g is all (restarts_here f g size anew)

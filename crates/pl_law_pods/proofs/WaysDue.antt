@@ -17,7 +17,8 @@ use Rattle.pl_law_control_plane.specs.ControlPlanes.{ControlPlane, control_plane
 use Rattle.pl_law_control_plane.specs.PlaneSteps.{LosesNoWord, PlaneStep, WholeStep, ordered}
 use Rattle.pl_law_control_plane.proofs.Exports.{any_append, booted_view}
 use Rattle.pl_law_due.specs.Due.{due_plane, is_hello, is_silent, words_of}
-use Rattle.pl_law_due.specs.DueSteps.{DueStep, IsSifted, ManagerPart, Restarts, treats_one}
+use Rattle.pl_law_control_plane.specs.Restarts.{Restarts}
+use Rattle.pl_law_due.specs.DueSteps.{DueStep, IsSifted, ManagerPart, treats_one}
 use Rattle.pl_law_due.specs.DueSteps.DueStep.{Managed as ManagedBy, Stepped}
 use Rattle.pl_law_due.specs.DueSteps.ManagerPart.{Released, Treated, Turned}
 use Rattle.pl_law_due.specs.Gathering.{AreUnheard, GathersWell}

@@ -32,7 +32,8 @@ use Rattle.pl_law_control_plane.specs.ControlPlanes.{ControlPlane, control_plane
 use Rattle.pl_law_control_plane.specs.PlaneSteps.{IsReportTaken, LosesNoWord, ManagerTurns, PlaneStep, WholeStep, ordered}
 use Rattle.pl_law_control_plane.proofs.Exports.{told_all}
 use Rattle.pl_law_due.specs.Due.{due_plane, words_of}
-use Rattle.pl_law_due.specs.DueSteps.{DueStep, IsSifted, IsTurned, ManagerPart, Restarts, treats_one}
+use Rattle.pl_law_control_plane.specs.Restarts.{Restarts}
+use Rattle.pl_law_due.specs.DueSteps.{DueStep, IsSifted, IsTurned, ManagerPart, treats_one}
 use Rattle.pl_law_due.specs.DueSteps.DueStep.{Managed as ManagedBy, Stepped}
 use Rattle.pl_law_due.specs.DueSteps.ManagerPart.{Released, Treated, Turned}
 use Rattle.pl_law_due.specs.Gathering.{GathersWell}

@@ -1,7 +1,6 @@
 -- Why a manager that begins anew treats wishes for pods behind the places of all switches: a switch knows number 0, and another one asks.
-use Rattle.std.specs.Prelude.{◌≡◌, List, [], ◌∷◌, Some, refl}
+use Rattle.std.specs.Prelude.{◌≡◌, [], ◌∷◌, Some, refl}
 use Rattle.pl_frame.specs.declared.address.SwitchId.{SwitchId}
-use Rattle.pl_node.specs.declared.pod_given.PodGiven.{PodGiven}
 use Rattle.pl_node.specs.ManagerViews.{Told}
 use Rattle.pl_manager_rule.specs.ManagerRule.{with_asker}
 

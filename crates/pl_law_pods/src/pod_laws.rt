@@ -27,7 +27,7 @@ ghost use Rattle.pl_world.specs.Booting.{booted};
 ghost use Rattle.pl_law_control_plane.specs.ControlPlanes.{ControlPlane, control_plane, tells};
 ghost use Rattle.pl_law_control_plane.specs.PlaneSteps.{WholeStep};
 ghost use Rattle.pl_law_due.specs.Due.{due_plane, is_silent};
-ghost use Rattle.pl_law_due.specs.DueSteps.{Restarts};
+ghost use Rattle.pl_law_control_plane.specs.Restarts.{Restarts};
 ghost use Rattle.pl_law_due.specs.Gathering.{GathersWell};
 ghost use Rattle.pl_law_places.specs.Known.{IsZeroOf, pod_of};
 ghost use Rattle.pl_law_places.specs.Places.{ArePlaced, ArePodNumbers};

@@ -18,7 +18,8 @@ use Rattle.pl_node.specs.ManagerViews.{ManagerView, restarted_manager}
 use Rattle.pl_switch_rule.specs.SwitchRule.{Loose}
 use Rattle.pl_law_control_plane.specs.ControlPlanes.{ControlPlane}
 use Rattle.pl_law_control_plane.specs.PlaneSteps.{IsReportTaken, ManagerTurns}
-use Rattle.pl_law_due.specs.DueSteps.{DueStep, IsSifted, ManagerPart, Restarts, treats_one}
+use Rattle.pl_law_control_plane.specs.Restarts.{Restarts}
+use Rattle.pl_law_due.specs.DueSteps.{DueStep, IsSifted, ManagerPart, treats_one}
 use Rattle.pl_law_due.specs.DueSteps.DueStep.{Managed as ManagedBy, Stepped}
 use Rattle.pl_law_due.specs.DueSteps.ManagerPart.{Released, Treated, Turned}
 use Rattle.pl_law_due.proofs.Exports.{heard_or_noted, IsRelease, Learns, part_alike, releases_learn, through_parts}

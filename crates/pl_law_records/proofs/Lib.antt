@@ -21,4 +21,5 @@ pub mod Questions
 pub mod EntriesWritten
 pub mod StepsWriteEntries
 pub mod EntryRuns
+pub mod Rising
 pub mod Exports

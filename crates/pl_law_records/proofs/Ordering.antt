@@ -301,6 +301,3 @@ plane_ordered_by rule f g has managed (Carried t q s port frame mid adjacent con
 plane_ordered_by rule f g has managed (Entered s port frame edge within free control turns) kept = ordered_turn f g s (Comes port frame) (λ list. refl) (λ parts. refl) turns has
 plane_ordered_by rule f g has managed (Ordered s says mid taken turns) kept = ordered_hears f mid g s says taken turns has
 plane_ordered_by rule f g has managed (Managed s id word mid there named taken turns) kept = managed mid s id word taken turns
-
-pub plane_ordered : (f g : ControlPlane) → IsPlan f.plan → HaveOrders f → (step : PlaneStep Loose manager_rule f g) → LosesNoWord Loose manager_rule f g step → HaveOrders g
-plane_ordered f g is has step kept = plane_ordered_by manager_rule f g has (λ mid s id word taken turns. ordered_manager f mid g s id word is taken turns has) step kept

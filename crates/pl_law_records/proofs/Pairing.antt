@@ -34,7 +34,8 @@ use Rattle.pl_law_control_plane.specs.PlaneSteps.{IsOrderTaken, IsReportTaken, L
 use Rattle.pl_law_control_plane.specs.PlaneSteps.PlaneStep.{Carried, Entered, Heard, Left, Managed, Ordered, Ticked}
 use Rattle.pl_law_control_plane.proofs.Exports.{adjacent_there}
 use Rattle.pl_law_due.specs.Due.{due_plane, is_hello, is_silent, words_of}
-use Rattle.pl_law_due.specs.DueSteps.{DueStep, IsAlike, IsSifted, Parts, Restarts, treats_one}
+use Rattle.pl_law_control_plane.specs.Restarts.{IsAlike, Restarts}
+use Rattle.pl_law_due.specs.DueSteps.{DueStep, IsSifted, Parts, treats_one}
 use Rattle.pl_law_due.specs.DueSteps.DueStep.{Managed as ManagedBy, Stepped}
 use Rattle.pl_law_due.specs.DueSteps.ManagerPart.{Treated}
 use Rattle.pl_law_due.specs.Gathering.{AreUnheard, GathersWell, IsUnheard}

@@ -13,7 +13,7 @@ use Rattle.pl_node.specs.ManagerViews.{booted_manager}
 use Rattle.pl_node.specs.SwitchFacts.{switch_at_boot}
 use Rattle.pl_node.specs.SwitchViews.{SwitchView}
 use Rattle.pl_manager_rule.specs.Histories.{members_said, place_said}
-use Rattle.pl_manager_rule.specs.ManagerRule.{manager_rule}
+use Rattle.pl_manager_rule.specs.WholeRule.{whole_rule}
 use Rattle.pl_switch_rule.specs.Intake.{has_member_of}
 use Rattle.pl_switch_rule.specs.SwitchRule.{Loose}
 use Rattle.pl_switch_rule.proofs.Exports.{loose_steps_are_accounted}
@@ -25,19 +25,21 @@ use Rattle.pl_world.specs.Refusals.{refusal}
 use Rattle.pl_world.specs.Runs.{Moment, WorldRun}
 use Rattle.pl_world.specs.WorldRule.{WorldStep}
 use Rattle.pl_world.specs.Worlds.{WorldView}
-use Rattle.pl_world.proofs.Exports.{booted_is_counted}
-use Rattle.pl_law_control_plane.specs.ControlPlanes.{control_plane, no_switch}
+use Rattle.pl_law_control_plane.specs.ControlPlanes.{ControlPlane, control_plane, no_switch}
 use Rattle.pl_law_control_plane.specs.HostsAtEdges.{HostsAtEdges}
-use Rattle.pl_law_control_plane.proofs.Exports.{hosts_at_first, kept_in_run, step_keeps_hosts, whole_step}
+use Rattle.pl_law_control_plane.proofs.Exports.{step_on_plane}
 use Rattle.pl_law_due.specs.Due.{due_plane, words_of}
-use Rattle.pl_law_due.proofs.Exports.{whole_due}
+use Rattle.pl_law_due.specs.DueSteps.{OnDue}
+use Rattle.pl_law_due.specs.DueSteps.OnDue.{BeginsAnew, Steps}
+use Rattle.pl_law_due.specs.Gathering.{GathersWell, IsSized}
+use Rattle.pl_law_due.proofs.Exports.{on_due, whole_due}
 use Rattle.pl_law_invariant.specs.ControlInvariant.{ControlInvariant}
 use Rattle.pl_law_invariant.proofs.Exports.{holds_in_run, kept_at_first, world_due, world_unheard}
 use Rattle.pl_law_records.specs.Records.{HaveOrders, HaveReported}
 use Rattle.pl_law_records.specs.Words.{avoid_said, last_said, part_said}
 use Rattle.pl_law_records.proofs.ListsOfRecords.{no_list, no_part}
-use Rattle.pl_law_records.proofs.Ordering.{plane_ordered}
-use Rattle.pl_law_records.proofs.Reporting.{due_reported}
+use Rattle.pl_law_records.proofs.DueOrders.{due_ordered, restart_ordered}
+use Rattle.pl_law_records.proofs.Reporting.{due_reported, restart_reported}
 
 -- a switch that knows nothing of its place, of members and of trees
 record IsNew (v : SwitchView) : Type 0 where
@@ -73,38 +75,57 @@ ordered_at_first plan limits s id named =
       rising = subst (λ ps. IsStrictlySortedBy nat_cmp (keys_of ps)) (sym new.parts) tt;
     }
 
-module _ (host : HostRule) (sends : HostsSendData host) where
-  record Sent (w : WorldView) : Type 0 where
-    hosts : HostsAtEdges w
-    has : HaveOrders (control_plane w)
+-- orders and records are the same by what is due
+orders_due : (f : ControlPlane) → HaveOrders f → HaveOrders (due_plane f)
+orders_due f has s id named = let was = has s id named in record { avoid = was.avoid; parts = was.parts; rising = was.rising }
 
+due_orders : (f : ControlPlane) → HaveOrders (due_plane f) → HaveOrders f
+due_orders f has s id named = let is = has s id named in record { avoid = is.avoid; parts = is.parts; rising = is.rising }
+
+module _ (host : HostRule) where
   pub step_reported : (old : WorldView) (event : Event) (new : WorldView) → ControlInvariant old → refusal old event ≡ None →
-      WorldStep Loose manager_rule host old event new → HaveReported (due_plane (control_plane old)) → HaveReported (due_plane (control_plane new))
-  step_reported old event new before none step told =
-      due_reported (due_plane (control_plane old)) (due_plane (control_plane new)) before.counted.formed.plan (world_unheard old before) told
-      (world_due host old event new before none step)
+      WorldStep Loose whole_rule host old event new → HaveReported (due_plane (control_plane old)) → HaveReported (due_plane (control_plane new))
+  step_reported old event new before none step told = by (world_due host old event new before none step)
+    where
+      f : ControlPlane
+      f = due_plane (control_plane old)
 
-  pub step_ordered : (old : WorldView) (event : Event) (new : WorldView) → IsCounted old → HostsAtEdges old → refusal old event ≡ None →
-      WorldStep Loose manager_rule host old event new → HaveOrders (control_plane old) → HaveOrders (control_plane new)
-  step_ordered old event new counted hosts none step has =
-      let whole = whole_step Loose manager_rule host loose_steps_are_accounted old event new counted hosts none step in
-      plane_ordered (control_plane old) (control_plane new) counted.formed.plan has whole.0 whole.1
+      g : ControlPlane
+      g = due_plane (control_plane new)
 
-  pub run_reported : HostsSendOwn host → (plan : Plan) (limits : Limits) (moments : List Moment) (new : WorldView) → CanBegin plan →
-      WorldRun Loose manager_rule host (booted plan limits) moments new → HaveReported (due_plane (control_plane new))
-  run_reported owns plan limits moments new can run =
-      holds_in_run host sends owns (λ w. HaveReported (due_plane (control_plane w)))
-      (λ old event next before after told none step. step_reported old event next before none step told) (λ w entry is told. told)
-      (booted plan limits) moments new (kept_at_first plan limits can) (reported_at_first plan limits) run
+      by : OnDue Loose f g → HaveReported g
+      by (Steps due) = due_reported f g before.counted.formed.plan (world_unheard old before) told due
+      by (BeginsAnew anew) = restart_reported f g before.counted.formed.plan anew
 
-  pub run_ordered : (plan : Plan) (limits : Limits) (moments : List Moment) (new : WorldView) → CanBegin plan →
-      WorldRun Loose manager_rule host (booted plan limits) moments new → HaveOrders (control_plane new)
-  run_ordered plan limits moments new can run =
-      (kept_in_run Loose manager_rule host loose_steps_are_accounted sends Sent
-      (λ old event next counted both none step. record {
-        hosts = step_keeps_hosts Loose manager_rule host loose_steps_are_accounted sends old event next counted both.hosts none step;
-        has = step_ordered old event next counted both.hosts none step both.has;
-      })
-      (λ w entry both. record { hosts = both.hosts; has = both.has })
-      (booted plan limits) moments new (booted_is_counted plan limits can)
-      (record { hosts = hosts_at_first plan can.is_plan; has = ordered_at_first plan limits }) run).has
+  pub step_ordered : (old : WorldView) (event : Event) (new : WorldView) → IsCounted old → HostsAtEdges old → IsSized (control_plane old) →
+      GathersWell (control_plane old) → refusal old event ≡ None → WorldStep Loose whole_rule host old event new → HaveOrders (control_plane old) → HaveOrders (control_plane new)
+  step_ordered old event new counted hosts size well none step has =
+      let is = counted.formed.plan in
+      due_orders (control_plane new) (by (on_due (control_plane old) (control_plane new) is size well
+      (step_on_plane Loose whole_rule host loose_steps_are_accounted old event new counted hosts none step)))
+    where
+      f : ControlPlane
+      f = due_plane (control_plane old)
+
+      g : ControlPlane
+      g = due_plane (control_plane new)
+
+      by : OnDue Loose f g → HaveOrders g
+      by (Steps due) = due_ordered f g counted.formed.plan (orders_due (control_plane old) has) due
+      by (BeginsAnew anew) = restart_ordered f g counted.formed.plan (orders_due (control_plane old) has) anew
+
+  module _ (sends : HostsSendData host) (owns : HostsSendOwn host) where
+    pub run_reported : (plan : Plan) (limits : Limits) (moments : List Moment) (new : WorldView) → CanBegin plan →
+        WorldRun Loose whole_rule host (booted plan limits) moments new → HaveReported (due_plane (control_plane new))
+    run_reported plan limits moments new can run =
+        holds_in_run host sends owns (λ w. HaveReported (due_plane (control_plane w)))
+        (λ old event next before after told none step. step_reported old event next before none step told) (λ w entry is told. told)
+        (booted plan limits) moments new (kept_at_first plan limits can) (reported_at_first plan limits) run
+
+    pub run_ordered : (plan : Plan) (limits : Limits) (moments : List Moment) (new : WorldView) → CanBegin plan →
+        WorldRun Loose whole_rule host (booted plan limits) moments new → HaveOrders (control_plane new)
+    run_ordered plan limits moments new can run =
+        holds_in_run host sends owns (λ w. HaveOrders (control_plane w))
+        (λ old event next before after has none step. step_ordered old event next before.counted before.hosts before.size before.gathered none step has)
+        (λ w entry is has. has)
+        (booted plan limits) moments new (kept_at_first plan limits can) (ordered_at_first plan limits) run

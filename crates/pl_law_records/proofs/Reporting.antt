@@ -21,7 +21,8 @@ use Rattle.pl_law_control_plane.specs.ControlPlanes.{ControlPlane, tells}
 use Rattle.pl_law_control_plane.specs.PlaneSteps.{IsOrderTaken, IsReportTaken, LosesNoWord, ManagerTurns, PlaneStep, SwitchTurns, WholeStep}
 use Rattle.pl_law_control_plane.specs.PlaneSteps.PlaneStep.{Carried, Entered, Heard, Left, Managed, Ordered, Ticked}
 use Rattle.pl_law_due.specs.Due.{is_hello, is_silent}
-use Rattle.pl_law_due.specs.DueSteps.{DueStep, IsSifted, Parts, Restarts, treats_one}
+use Rattle.pl_law_control_plane.specs.Restarts.{Restarts}
+use Rattle.pl_law_due.specs.DueSteps.{DueStep, IsSifted, Parts, treats_one}
 use Rattle.pl_law_due.specs.DueSteps.DueStep.{Managed as ManagedBy, Stepped}
 use Rattle.pl_law_due.specs.DueSteps.ManagerPart.{Treated}
 use Rattle.pl_law_due.specs.Gathering.{AreUnheard, IsUnheard}

@@ -27,7 +27,8 @@ use Rattle.pl_law_control_plane.specs.PlaneSteps.{IsOrderTaken, LosesNoWord, Pla
 use Rattle.pl_law_control_plane.specs.PlaneSteps.PlaneStep.{Carried, Entered, Heard, Left, Managed, Ordered, Ticked}
 use Rattle.pl_law_control_plane.proofs.Exports.{adjacent_there}
 use Rattle.pl_law_due.specs.Due.{due_plane, is_hello, is_silent, words_of}
-use Rattle.pl_law_due.specs.DueSteps.{DueStep, Restarts, treats_one}
+use Rattle.pl_law_control_plane.specs.Restarts.{Restarts}
+use Rattle.pl_law_due.specs.DueSteps.{DueStep, treats_one}
 use Rattle.pl_law_due.specs.DueSteps.DueStep.{Managed as ManagedBy, Stepped}
 use Rattle.pl_law_due.specs.DueSteps.ManagerPart.{Treated}
 use Rattle.pl_law_due.specs.Gathering.{AreUnheard, GathersWell, IsUnheard}

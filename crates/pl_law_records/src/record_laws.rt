@@ -1,6 +1,6 @@
 ghost use Rattle.std.specs.Prelude.{◌≡◌, None};
 ghost use Rattle.pl_wiring.specs.Plan.{IsPlan, Plan};
-ghost use Rattle.pl_manager_rule.specs.ManagerRule.{manager_rule};
+ghost use Rattle.pl_manager_rule.specs.WholeRule.{whole_rule};
 ghost use Rattle.pl_switch_rule.specs.SwitchRule.{Loose};
 ghost use Rattle.pl_world.specs.declared.event.Event.{Event};
 ghost use Rattle.pl_world.specs.declared.limits.Limits.{Limits};
@@ -13,8 +13,9 @@ ghost use Rattle.pl_world.specs.Worlds.{WorldView};
 ghost use Rattle.pl_law_control_plane.specs.ControlPlanes.{ControlPlane, control_plane};
 ghost use Rattle.pl_law_control_plane.specs.HostsAtEdges.{HostsAtEdges};
 ghost use Rattle.pl_law_due.specs.Due.{due_plane};
-ghost use Rattle.pl_law_due.specs.DueSteps.{DueStep, Restarts};
-ghost use Rattle.pl_law_due.specs.Gathering.{AreUnheard, GathersWell};
+ghost use Rattle.pl_law_control_plane.specs.Restarts.{Restarts};
+ghost use Rattle.pl_law_due.specs.DueSteps.{DueStep};
+ghost use Rattle.pl_law_due.specs.Gathering.{AreUnheard, GathersWell, IsSized};
 ghost use Rattle.pl_law_invariant.specs.ControlInvariant.{ControlInvariant};
 ghost use Rattle.pl_law_records.specs.Records.{AreCurrent, HaveOrders, HaveReported, HaveToldLinks, HaveToldNeighbours, NoReportWaits, LinksAreCurrent, LinksAreOfNeighbours, NamesNeighbours};
 
@@ -30,30 +31,33 @@ pub fn the_records_begin_current()
 /// to treat, or treated, says what the switch would tell now: of each that is not silent. After a restart each is.
 pub fn each_step_keeps_reports<H: HostLogic>()
     ensures steps { (old : WorldView) (event : Event) (new : WorldView) → ControlInvariant old → refusal old event ≡ None →
-        WorldStep Loose manager_rule H.rule old event new →
+        WorldStep Loose whole_rule H.rule old event new →
         HaveReported (due_plane (control_plane old)) → HaveReported (due_plane (control_plane new)) }
     ensures epochs { (old new : ControlPlane) → IsPlan old.plan → AreUnheard old → DueStep Loose old new → HaveReported old → HaveReported new }
     ensures restarts { (old new : ControlPlane) → IsPlan old.plan → Restarts old new → HaveReported new }
 {}
 
 /// Each step keeps it that the last avoid list and the last tree parts that each switch was sent are those of
-/// the manager's records; so do a step to what is due, and a restart, after which each has none.
+/// the manager's records, where reports to it are gathered in order; so do a step to what is due, and a restart,
+/// after which each has none.
 pub fn each_step_keeps_orders<H: HostLogic>()
-    ensures steps { (old : WorldView) (event : Event) (new : WorldView) → IsCounted old → HostsAtEdges old → refusal old event ≡ None →
-        WorldStep Loose manager_rule H.rule old event new → HaveOrders (control_plane old) → HaveOrders (control_plane new) }
+    ensures steps { (old : WorldView) (event : Event) (new : WorldView) → IsCounted old → HostsAtEdges old → IsSized (control_plane old) →
+        GathersWell (control_plane old) → refusal old event ≡ None →
+        WorldStep Loose whole_rule H.rule old event new → HaveOrders (control_plane old) → HaveOrders (control_plane new) }
     ensures epochs { (old new : ControlPlane) → IsPlan old.plan → DueStep Loose old new → HaveOrders old → HaveOrders new }
     ensures restarts { (old new : ControlPlane) → IsPlan old.plan → Restarts old new → HaveOrders old → HaveOrders new }
 {}
 
-/// So in every run from the beginning the last report of each switch is what it would tell now.
+/// So in every run from the beginning the last report of each switch is what it would tell now, of each that is not
+/// silent: the others have still to hear that the manager began anew.
 pub fn reports_are_kept_in_every_run<H: HostLogic>()
-    ensures { InEveryRun Loose manager_rule H.rule (λ new. HaveReported (due_plane (control_plane new))) }
+    ensures { InEveryRun Loose whole_rule H.rule (λ new. HaveReported (due_plane (control_plane new))) }
 {}
 
 /// And in every run the last avoid list and the last tree parts that each switch was sent are those of the
 /// manager's records.
 pub fn orders_are_of_the_records_in_every_run<H: HostLogic>()
-    ensures { InEveryRun Loose manager_rule H.rule (λ new. HaveOrders (control_plane new)) }
+    ensures { InEveryRun Loose whole_rule H.rule (λ new. HaveOrders (control_plane new)) }
 {}
 
 /// Where no report and no order waits, the records are what the switches would tell now, and the switches hold
@@ -80,7 +84,7 @@ pub fn each_step_keeps_links()
 
 /// So in every run from the beginning it says that.
 pub fn links_are_told_in_every_run<H: HostLogic>()
-    ensures { InEveryRun Loose manager_rule H.rule (λ new. HaveToldLinks (due_plane (control_plane new))) }
+    ensures { InEveryRun Loose whole_rule H.rule (λ new. HaveToldLinks (due_plane (control_plane new))) }
 {}
 
 /// Where no report waits, the usable pairs of the records are what both ends would tell now.
@@ -91,7 +95,7 @@ pub fn usable_pairs_are_current_at_rest()
 /// In every run the last report of a switch on its link to another one says that it is not usable, where the
 /// wiring does not join the two.
 pub fn links_to_neighbours_alone_are_told_usable_in_every_run<H: HostLogic>()
-    ensures { InEveryRun Loose manager_rule H.rule (λ new. HaveToldNeighbours (due_plane (control_plane new))) }
+    ensures { InEveryRun Loose whole_rule H.rule (λ new. HaveToldNeighbours (due_plane (control_plane new))) }
 {}
 
 /// So where no report waits, each usable link of the records is one of the wiring.

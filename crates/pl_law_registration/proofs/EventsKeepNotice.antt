@@ -30,6 +30,7 @@ use Rattle.pl_world.specs.Booting.{me_of}
 use Rattle.pl_world.specs.Changes.{noted, out_of, said_to}
 use Rattle.pl_world.specs.LinksAndMoves.{item_lost, link_failed, link_repaired}
 use Rattle.pl_world.specs.OtherActs.{heard_after_tick, manager_act_done, manager_stepped, one_more_tick}
+use Rattle.pl_world.specs.Restarting.{manager_restarted}
 use Rattle.pl_world.specs.WorldRule.{DeliversFromManager, DeliversToManager, LinkFails, LinkIsRepaired, SwitchTurn}
 use Rattle.pl_world.specs.Worlds.{WorldView}
 use Rattle.pl_law_registration.specs.BeingRegistered.{AreAttachedApart}
@@ -199,6 +200,19 @@ module _ (h : ℕ) (w : WorldView) (f : Facts w) (apart : AreAttachedApart w.att
   repaired_on (Some link) new same =
       subst (λ (x : WorldView). Keeps h w x) (sym same)
       (same_keeps (link_repaired w link) (record {
+        plan = refl;
+        attachments = refl;
+        switches = refl;
+        out = refl;
+        from_hosts = refl;
+        heard = refl;
+      }))
+
+  -- ---- the manager begins anew
+  pub anew_on : (new : WorldView) → new ≡ manager_restarted w → Keeps h w new
+  anew_on new anew =
+      subst (λ (x : WorldView). Keeps h w x) (sym anew)
+      (same_keeps (manager_restarted w) (record {
         plan = refl;
         attachments = refl;
         switches = refl;

@@ -25,6 +25,7 @@ use Rattle.pl_law_control_plane.specs.HostsAtEdges.{IsAtEdge}
 use Rattle.pl_law_places.specs.Known.{IsPlaceOfLabel}
 use Rattle.pl_law_addresses.specs.Addressed.{KnowNeighbours}
 use Rattle.pl_law_addresses.specs.OwnFrames.{HostsAreOwn}
+use Rattle.pl_law_epochs.proofs.Exports.{world_tables}
 use Rattle.pl_law_invariant.specs.ControlInvariant.{ControlInvariant}
 use Rattle.pl_law_invariant.proofs.Exports.{grounded}
 use Rattle.pl_switch_rule.specs.Granting.{freed_at, grants_at}
@@ -87,12 +88,12 @@ facts_of w kept =
           record {
             ready = record {
               low = low;
-              has = record { grants = subst (λ n. port < n) (sym (shaped.grants ∙ size)) within; remembered = subst (λ n. port < n) (sym (shaped.remembered ∙ size)) within; free = free_given (grants_at v port) (freed_at v port) ((kept.addresses.addressed.address_tables s v found).free port) };
+              has = record { grants = subst (λ n. port < n) (sym (shaped.grants ∙ size)) within; remembered = subst (λ n. port < n) (sym (shaped.remembered ∙ size)) within; free = free_given (grants_at v port) (freed_at v port) ((world_tables w kept.counted kept.addresses s v found).free port) };
               within = subst (λ n. port < n) (sym size) within;
             };
             takes = takes_hosts (port_of v port) (ap (λ (u : SwitchView). (port_of u port).heard) (sym here) ∙ kept.placed.strangers s port free);
           };
-      own = kept.addresses.own;
+      own = kept.own;
       neighbours = (grounded w kept.counted kept.placed kept.voting kept.numbered).neighbours;
       holding = kept.counted.holding;
       host_items = kept.counted.in_host_queues;

@@ -13,7 +13,7 @@ use Rattle.pl_node.specs.HostViews.{HostView}
 use Rattle.pl_host_rule.specs.HostRule.{host_rule}
 use Rattle.pl_journal.specs.declared.entry.Entry.{Entry}
 use Rattle.pl_journal.specs.Places.{is_host_port}
-use Rattle.pl_manager_rule.specs.ManagerRule.{manager_rule}
+use Rattle.pl_manager_rule.specs.WholeRule.{whole_rule}
 use Rattle.pl_switch_rule.specs.SwitchRule.{Loose}
 use Rattle.pl_world.specs.declared.event.Event.{Event}
 use Rattle.pl_world.specs.declared.event.Event.TheVariants as event
@@ -28,10 +28,10 @@ use Rattle.pl_world.specs.Runs.{IsMark, Moment, WorldRun}
 use Rattle.pl_world.specs.WorldRule.{ComesIn, WorldStep}
 use Rattle.pl_world.specs.Worlds.{WorldView}
 use Rattle.pl_world.proofs.Exports.{event_is_not_refused, Happened, happened, place_is_free, port_within, same_refusal, there_is}
-use Rattle.pl_world.proofs.Exports.Happened.{Asked, Departed, Failed, FromHost, Lost, Ordered, OutOfPort, OverLink, PlayedFrame, Repaired, Reported, Ticked}
+use Rattle.pl_world.proofs.Exports.Happened.{Asked, BeganAnew, Departed, Failed, FromHost, Lost, Ordered, OutOfPort, OverLink, PlayedFrame, Repaired, Reported, Ticked}
 use Rattle.pl_law_invariant.specs.ControlInvariant.{ControlInvariant}
 use Rattle.pl_law_registration.specs.BeingRegistered.{AreAttachedApart}
-use Rattle.pl_law_registration.proofs.EventsKeepNotice.{fails_on, from_manager, lost_on, repaired_on, ticks_on, to_manager}
+use Rattle.pl_law_registration.proofs.EventsKeepNotice.{anew_on, fails_on, from_manager, lost_on, repaired_on, ticks_on, to_manager}
 use Rattle.pl_law_registration.proofs.Facts.{Facts, facts_of}
 use Rattle.pl_law_registration.proofs.DeliveredOutOfPorts.{noted_follows, over_there}
 use Rattle.pl_law_registration.proofs.Moves.{goes_on, plays_on, sends_on}
@@ -66,7 +66,7 @@ module _ (rule : HostRule) (lawful : (view : HostView) (input : HostInput) (afte
         port_within w.plan s.0 port (there_is (has_port w.plan s.0 port) (is_filled w (queue.Port s port))
         (subst (λ (x : Event). refusal_of_event w x ≡ None) is none))
 
-    by_case : (e : Event) (new : WorldView) → refusal_of_event w e ≡ None → Happened Loose manager_rule rule w e new → After h new
+    by_case : (e : Event) (new : WorldView) → refusal_of_event w e ≡ None → Happened Loose whole_rule rule w e new → After h new
     by_case e new none (FromHost g item items attachment is head at comes) =
         after new (from_host h w f apart a g.0 (item ∷ items) new head
         (subst (λ (o : Option AttachmentPoint). ComesIn Loose (record w { from_hosts = set w.from_hosts g.0 items }) g.0 item o new) (sym at) comes))
@@ -74,7 +74,7 @@ module _ (rule : HostRule) (lawful : (view : HostView) (input : HostInput) (afte
         after new (over_there h w f apart a s.0 port item items head (there_port e s port none is) rule lawful (Switch t q) joined new comes)
     by_case e new none (OutOfPort s port item items is head joined comes) =
         after new (over_there h w f apart a s.0 port item items head (there_port e s port none is) rule lawful HostPort joined new comes)
-    by_case e new none (Reported s told items is head turn) = after new (to_manager h w f apart a manager_rule s.0 (told ∷ items) new turn)
+    by_case e new none (Reported s told items is head turn) = after new (to_manager h w f apart a whole_rule s.0 (told ∷ items) new turn)
     by_case e new none (Ordered s says items is head turn) = after new (from_manager h w f apart a s.0 (says ∷ items) new turn)
     by_case e new none (Ticked s is turn) = after new (ticks_on h w f apart a s.0 new turn)
     by_case e new none (Failed x y link is found fails) = after new (fails_on h w f apart a (joins x.0 y.0) (Some link) found new fails)
@@ -88,15 +88,16 @@ module _ (rule : HostRule) (lawful : (view : HostView) (input : HostInput) (afte
         (place_is_free w g.0 s.0 port (subst (λ (x : Event). refusal_of_event w x ≡ None) is none)) _ new turn
     by_case e new none (PlayedFrame g input skip is turn) = after new (plays_on h w f apart a rule g.0 input new (record { skip = skip; turn = turn }))
     by_case e new none (Asked g input is turn) = after new (sends_on h w f apart a rule g.0 input _ new turn)
+    by_case e new none (BeganAnew is anew) = after new (anew_on h w f apart a new anew)
 
   -- ---- a step
-  pub step_attends : (old : WorldView) (e : Event) (new : WorldView) → ControlInvariant old → AttendsAll old → refusal old e ≡ None → WorldStep Loose manager_rule rule old e new → AttendsAll new
+  pub step_attends : (old : WorldView) (e : Event) (new : WorldView) → ControlInvariant old → AttendsAll old → refusal old e ≡ None → WorldStep Loose whole_rule rule old e new → AttendsAll new
   step_attends old e new kept all none step =
       let w : WorldView = record old { steps = old.steps + 1 } in
       let one : (h : ℕ) → After h new = (λ h.
       let a = all.each h in
       by_case h w (facts_of old kept) all.apart (record { noticed = a.noticed }) e new
-      (same_refusal old e ∙ event_is_not_refused old e none) (happened Loose manager_rule rule w e new step)) in
+      (same_refusal old e ∙ event_is_not_refused old e none) (happened Loose whole_rule rule w e new step)) in
       record { apart = (one 0).1; each = λ h. (one h).0 }
 
   -- ---- a mark
@@ -126,6 +127,6 @@ module _ (rule : HostRule) (lawful : (view : HostView) (input : HostInput) (afte
       };
     }
 
-    pub run_attends : (moments : List Moment) (new : WorldView) → WorldRun Loose manager_rule rule (booted plan limits) moments new → AttendsAll new
+    pub run_attends : (moments : List Moment) (new : WorldView) → WorldRun Loose whole_rule rule (booted plan limits) moments new → AttendsAll new
     run_attends moments new run =
         kept_from_beginning rule sends owns AttendsAll step_attends mark_attends plan limits can boots_being_registered moments new run

@@ -16,7 +16,7 @@ use Rattle.pl_world.specs.Worlds.{WorldView}
 use Rattle.pl_fabric.specs.declared.settling.Settling.{Settling}
 use Rattle.pl_fabric.specs.Settlings.{IsAtRest, Settles}
 use Rattle.pl_fabric.proofs.Exports.{rounds_are_run}
-use Rattle.pl_law_invariant.proofs.Exports.{first_at_first, run_lawful}
+use Rattle.pl_law_invariant.proofs.Exports.{run_lawful}
 use Rattle.pl_law_registration.specs.Registering.{AreRegistered}
 use Rattle.pl_law_registration.proofs.Registered.{run_registers}
 use Rattle.pl_law_registration.proofs.Empty.{all_empty}
@@ -31,7 +31,7 @@ module _ (switch : SwitchRule) (manager : ManagerRule) (host : HostRule) where
   module _ (within : AllowsNoMore switch Loose) (lawful : IsManagerRule manager) (host_lawful : IsHostRule host) (sends : HostsSendData host) (owns : HostsSendOwn host) (plan : Plan) (limits : Limits) where
     pub rest_registers : (moments : List Moment) (new : WorldView) → CanBegin plan → WorldRun switch manager host (booted plan limits) moments new → IsAtRest new → AreRegistered new
     rest_registers moments new can run rest =
-        run_registers host host_lawful sends owns plan limits moments new can (run_lawful switch manager host within lawful (booted plan limits) moments new (first_at_first plan limits) run) (all_empty new rest.empty)
+        run_registers host host_lawful sends owns plan limits moments new can (run_lawful switch manager host within lawful (booted plan limits) moments new run) (all_empty new rest.empty)
 
     pub settling_registers : (moments : List Moment) (old : WorldView) (asked : ℕ) (answer : Settling) (new : WorldView) → CanBegin plan →
         WorldRun switch manager host (booted plan limits) moments old → (settling : Settles switch manager host asked old answer new) → settling.used < asked → AreRegistered new

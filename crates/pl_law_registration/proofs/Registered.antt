@@ -1,7 +1,7 @@
 -- At rest a host that is heard is registered where it stands.
-use Rattle.std.proofs.Common.{◌≡◌, ◌<◌, ℕ, nat_lt, Bool, true, List, [], length, Option, Some, None, is_some, refl, sym, ap, ◌∙◌, inl, inr, arith}
-use Rattle.std.specs.List.{list_any}
-use Rattle.std.proofs.lemmas.Bool.{and_from, false≢true}
+use Rattle.std.proofs.Common.{◌≡◌, ◌<◌, ℕ, zero, suc, nat_lt, Bool, true, List, [], ◌∷◌, length, Option, Some, None, is_some, refl, sym, ap, subst, ◌∙◌, inl, inr, arith}
+use Rattle.std.specs.List.{AllByRecursion, list_any}
+use Rattle.std.proofs.lemmas.Bool.{and_from, cases_Bool, false≢true}
 use Rattle.std.proofs.lemmas.Bool.Decides.{Decides-ltb}
 use Rattle.std.proofs.lemmas.Option.{slice_get_within}
 use Rattle.pl_arp.specs.declared.cache.Me.{Me}
@@ -9,6 +9,8 @@ use Rattle.pl_wiring.specs.declared.host.Host.{Host}
 use Rattle.pl_wiring.specs.Labels.{edge_count, switch_count}
 use Rattle.pl_wiring.specs.Plan.{Plan}
 use Rattle.pl_layouts.specs.Placement.{is_placed}
+use Rattle.pl_node.specs.declared.messages.ToManager.{ToManager}
+use Rattle.pl_node.specs.declared.messages.ToSwitch.{ToSwitch}
 use Rattle.pl_node.specs.AddressUses.{is_in_use}
 use Rattle.pl_node.specs.SwitchViews.{SwitchView}
 use Rattle.pl_queues.specs.Queues.{items_at}
@@ -18,16 +20,22 @@ use Rattle.pl_world.specs.declared.event.QueueName.TheVariants as queue
 use Rattle.pl_world.specs.declared.item.Item.{Item}
 use Rattle.pl_world.specs.declared.attachment.AttachmentPoint.{AttachmentPoint}
 use Rattle.pl_world.specs.Booting.{me_of}
-use Rattle.pl_world.specs.Changes.{host_no, out_of}
+use Rattle.pl_world.specs.Changes.{host_no, out_of, switch_no}
 use Rattle.pl_world.specs.Refusals.{has_port, has_switch}
 use Rattle.pl_world.specs.Worlds.{WorldView}
 use Rattle.pl_law_addresses.specs.Registered.{IsRegisteredWithIp}
 use Rattle.pl_law_addresses.specs.EdgeAddresses.{is_settled}
-use Rattle.pl_law_addresses.proofs.Exports.{granted_here, local_here, served_is_registered}
+use Rattle.pl_law_addresses.proofs.Exports.{granted_here, local_here}
+use Rattle.pl_law_control_plane.specs.ControlPlanes.{control_plane}
+use Rattle.pl_law_due.specs.Due.{is_hello}
+use Rattle.pl_law_due.specs.Gathering.{IsNoEnd}
+use Rattle.pl_law_due.proofs.Exports.{rest_whole}
+use Rattle.pl_law_epochs.proofs.Exports.{served_registered}
 use Rattle.pl_node.specs.HostDuties.{HostsSendData, HostsSendOwn}
 use Rattle.pl_node.specs.HostInputs.{HostRule}
 use Rattle.pl_host_rule.specs.HostRule.{IsHostRule}
-use Rattle.pl_manager_rule.specs.ManagerRule.{manager_rule}
+use Rattle.pl_gathering.specs.Gathering.{is_whole}
+use Rattle.pl_manager_rule.specs.WholeRule.{gathered, whole_rule}
 use Rattle.pl_switch_rule.specs.SwitchRule.{Loose}
 use Rattle.pl_world.specs.declared.limits.Limits.{Limits}
 use Rattle.pl_world.specs.Booting.{CanBegin, booted}
@@ -80,6 +88,26 @@ all_remembered w being_registered h host attachment v at reached unsettled = eli
 none_of : (p : Item → Bool) (xs : List Item) → xs ≡ [] → list_any p xs ≡ true → ⊥
 none_of p xs is any = false≢true (ap (λ (ys : List Item). list_any p ys) (sym is) ∙ any)
 
+none_beyond : {T : Type 0} (queues : List (List T)) (s : ℕ) → (s < length queues → ⊥) → items_at queues s ≡ []
+none_beyond [] s beyond = refl
+none_beyond (q ∷ queues) zero beyond = absurd (beyond (omega arith))
+none_beyond (q ∷ queues) (suc s) beyond = none_beyond queues s (λ within. beyond (omega (arith, within)))
+
+-- no report is missing then
+whole_now : (w : WorldView) → ControlInvariant w → NothingWaits w → is_whole (gathered w.manager) ≡ true
+whole_now w kept nothing =
+    let f = control_plane w in
+    let many = kept.counted.formed.plan.ids_many in
+    rest_whole f kept.counted.formed.plan kept.gathered (λ s. subst (λ (q : List ToManager). AllByRecursion IsNoEnd q) (sym (none_up s)) tt)
+    (λ s id named. ap (λ (q : List ToSwitch). list_any is_hello q)
+    (no_items (items_at w.from_manager s) (nothing (queue.FromManager (switch_no s)) ((Decides-ltb s (switch_count w.plan.k)).1 (subst (λ n. s < n) many (slice_get_within w.plan.ids s id named))))))
+  where
+    none_up : (s : ℕ) → items_at w.to_manager s ≡ []
+    none_up s = elim (cases_Bool (nat_lt s (switch_count w.plan.k))) [
+      | inl there ↦ no_items (items_at w.to_manager s) (nothing (queue.ToManager (switch_no s)) there)
+      | inr beyond ↦ none_beyond w.to_manager s (λ within. false≢true (sym beyond ∙ (Decides-ltb s (switch_count w.plan.k)).1 (subst (λ n. s < n) kept.counted.formed.to_manager within)))
+    ]
+
 pub registered_at_rest : (w : WorldView) → ControlInvariant w → AreBeingRegistered w → NothingWaits w → (h : ℕ) (host : Host) (attachment : AttachmentPoint) (v : SwitchView) → HostIsAttached w h host attachment v →
     is_placed v.place ≡ true → IsHeard w h → length (grants_at v attachment.port) < 65535 → IsRegisteredWithIp w h
 registered_at_rest w kept being_registered nothing h host attachment v at placed reached room =
@@ -96,7 +124,7 @@ registered_at_rest w kept being_registered nothing h host attachment v at placed
     let up = no_items (items_at w.to_manager attachment.edge.0) (nothing (queue.ToManager attachment.edge) there) in
     let down = no_items (items_at w.from_manager attachment.edge.0) (nothing (queue.FromManager attachment.edge) there) in
     elim (being_registered h host attachment v at reached) [
-      | inl known ↦ served_is_registered w kept.addresses.addressed h host attachment v at.is_host at.attachments at.switch up down (known.placed settled room)
+      | inl known ↦ served_registered w kept.counted kept.addresses h host attachment v at.is_host at.attachments at.switch (whole_now w kept nothing) up down (known.placed settled room)
       | inr waits ↦ elim waits.1 [
         | inl probe ↦ absurd (none_of (is_probe (me_of host)) (out_of w attachment.edge.0 attachment.port) out probe)
         | inr packet ↦ absurd (none_of is_packet (items_at w.from_hosts h) mine packet)
@@ -108,7 +136,7 @@ registered_at_rest w kept being_registered nothing h host attachment v at placed
 
 -- ---- in every run
 module _ (rule : HostRule) (lawful : IsHostRule rule) (sends : HostsSendData rule) (owns : HostsSendOwn rule) (plan : Plan) (limits : Limits) (moments : List Moment) (new : WorldView) (can : CanBegin plan)
-    (run : WorldRun Loose manager_rule rule (booted plan limits) moments new) where
+    (run : WorldRun Loose whole_rule rule (booted plan limits) moments new) where
   attends : AttendsAll new
   attends = run_attends rule (λ view input after acts answer. (lawful view input after acts answer).0) sends owns plan limits can moments new run
 

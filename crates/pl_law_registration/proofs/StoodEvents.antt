@@ -39,8 +39,8 @@ use Rattle.pl_world.specs.OtherActs.{heard_after_tick, skip_noted}
 use Rattle.pl_world.specs.Refusals.{refusal_of_event}
 use Rattle.pl_world.specs.WorldRule.{ComesAtSwitch, Happens, HostTurn, SwitchTurn, heard_item}
 use Rattle.pl_world.specs.Worlds.{WorldView}
-use Rattle.pl_world.proofs.Exports.{by_host, failed_left, Happened, happened, lost_left, manager_acts_left, out_left, place_is_free, repaired_left, skip_left, Writes}
-use Rattle.pl_world.proofs.Exports.Happened.{Asked, Departed, Failed, FromHost, Lost, Ordered, OutOfPort, OverLink, PlayedFrame, Repaired, Reported, Ticked}
+use Rattle.pl_world.proofs.Exports.{anew_left, by_host, failed_left, Happened, happened, lost_left, manager_acts_left, out_left, place_is_free, repaired_left, skip_left, Writes}
+use Rattle.pl_world.proofs.Exports.Happened.{Asked, BeganAnew, Departed, Failed, FromHost, Lost, Ordered, OutOfPort, OverLink, PlayedFrame, Repaired, Reported, Ticked}
 use Rattle.pl_law_addresses.specs.OwnFrames.{IsOwnItem}
 use Rattle.pl_law_addresses.proofs.Exports.{exists_at, filled_within, get-set_other, get-set_same}
 use Rattle.pl_law_registration.specs.BeingRegistered.{AreAttachedApart}
@@ -252,6 +252,8 @@ module _ (w : WorldView) (f : Facts w) (st : IsStood w) where
       by_case (PlayedFrame g input skip is turn) =
           host_stood rule (skip_noted w g.0 skip) (skip_left Keeps IsNoGrant keeps_writes (λ n why. tt) w g.0 skip st) g.0 _ _ new turn
       by_case (Asked g input is turn) = host_stood rule w st g.0 _ _ new turn
+      by_case (BeganAnew is anew) =
+          subst (λ (x : WorldView). IsStood x) (sym anew) (anew_left Keeps IsNoGrant keeps_writes w tt (λ u n su. su) st)
 
       pub event_stood : Happens Loose manager rule w e new → IsStood new
       event_stood does = by_case (happened Loose manager rule w e new does)

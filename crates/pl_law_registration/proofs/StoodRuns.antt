@@ -13,7 +13,7 @@ use Rattle.pl_node.specs.SwitchViews.{SwitchView}
 use Rattle.pl_journal.specs.declared.entry.Entry.{Entry}
 use Rattle.pl_journal.specs.declared.entry.Entry.TheVariants.{Granted}
 use Rattle.pl_journal.specs.Places.{at_port, is_at}
-use Rattle.pl_manager_rule.specs.ManagerRule.{manager_rule}
+use Rattle.pl_manager_rule.specs.WholeRule.{whole_rule}
 use Rattle.pl_switch_rule.specs.SwitchRule.{Loose}
 use Rattle.pl_world.specs.declared.event.Event.{Event}
 use Rattle.pl_world.specs.declared.limits.Limits.{Limits}
@@ -42,9 +42,9 @@ mark_grants_none e is = tt
 marked : (w : WorldView) (e : Entry) → IsMark e → IsStood w → IsStood (noted w e)
 marked w e is st = stood_on w.plan w.attachments w.switches w.journal (noted w e).journal (wrote_quiet w.plan w.journal e (mark_grants_none e is)) st
 
-stepped : (rule : HostRule) (old : WorldView) (e : Event) (new : WorldView) → ControlInvariant old → IsStood old → refusal old e ≡ None → WorldStep Loose manager_rule rule old e new → IsStood new
+stepped : (rule : HostRule) (old : WorldView) (e : Event) (new : WorldView) → ControlInvariant old → IsStood old → refusal old e ≡ None → WorldStep Loose whole_rule rule old e new → IsStood new
 stepped rule old e new kept st none step =
-    event_stood (record old { steps = old.steps + 1 }) (facts_of old kept) (record { apart = st.apart; attachment = st.attachment; remembered = st.remembered; granted = st.granted }) rule manager_rule e new
+    event_stood (record old { steps = old.steps + 1 }) (facts_of old kept) (record { apart = st.apart; attachment = st.attachment; remembered = st.remembered; granted = st.granted }) rule whole_rule e new
     (same_refusal old e ∙ event_is_not_refused old e none) step
 
 -- ---- the beginning
@@ -77,15 +77,15 @@ boots_stood plan limits can = record {
 }
 
 stood_in_run : (rule : HostRule) → HostsSendData rule → HostsSendOwn rule → (plan : Plan) (limits : Limits) (moments : List Moment) (new : WorldView) → CanBegin plan →
-    WorldRun Loose manager_rule rule (booted plan limits) moments new → IsStood new
+    WorldRun Loose whole_rule rule (booted plan limits) moments new → IsStood new
 stood_in_run rule sends owns plan limits moments new can run =
     kept_from_beginning rule sends owns IsStood (stepped rule) marked plan limits can (boots_stood plan limits can) moments new run
 
 pub run_stood : (rule : HostRule) → HostsSendData rule → HostsSendOwn rule → (plan : Plan) (limits : Limits) (moments : List Moment) (new : WorldView) → CanBegin plan →
-    WorldRun Loose manager_rule rule (booted plan limits) moments new → AreStoodFor new.plan (reverse new.journal)
+    WorldRun Loose whole_rule rule (booted plan limits) moments new → AreStoodFor new.plan (reverse new.journal)
 run_stood rule sends owns plan limits moments new can run =
     (stood_in_run rule sends owns plan limits moments new can run).granted
 
 pub run_apart : (rule : HostRule) → HostsSendData rule → HostsSendOwn rule → (plan : Plan) (limits : Limits) (moments : List Moment) (new : WorldView) → CanBegin plan →
-    WorldRun Loose manager_rule rule (booted plan limits) moments new → AreAttachedApart new.attachments
+    WorldRun Loose whole_rule rule (booted plan limits) moments new → AreAttachedApart new.attachments
 run_apart rule sends owns plan limits moments new can run = (stood_in_run rule sends owns plan limits moments new can run).apart

@@ -1,4 +1,4 @@
-ghost use Rattle.pl_manager_rule.specs.ManagerRule.{manager_rule};
+ghost use Rattle.pl_manager_rule.specs.WholeRule.{whole_rule};
 ghost use Rattle.pl_switch_rule.specs.SwitchRule.{Loose};
 ghost use Rattle.pl_world.specs.Runs.{InEveryRun};
 ghost use Rattle.pl_world.specs.Worlds.{WorldView};
@@ -19,7 +19,7 @@ pub fn a_host_is_registered_at_rest()
 
 /// So it is at each moment of every run at which every queue is empty, whichever candidates switches choose.
 pub fn a_host_is_registered_at_rest_in_every_run<H: LawfulHost>()
-    ensures { InEveryRun Loose manager_rule H.rule (λ new. NothingWaits new → AreRegistered new) }
+    ensures { InEveryRun Loose whole_rule H.rule (λ new. NothingWaits new → AreRegistered new) }
 {}
 
 /// And in every run of lawful logic.

@@ -188,6 +188,7 @@ module _ (switch : SwitchRule) (manager : ManagerRule) (host : HostRule) (switch
   happens w (event.Retry h) a b one other = host_turns host hosts w h.0 _ _ a b one other
   happens w (event.Join h group) a b one other = host_turns host hosts w h.0 _ _ a b one other
   happens w (event.Leave h group) a b one other = host_turns host hosts w h.0 _ _ a b one other
+  happens w event.Restart a b one other = one ∙ sym other
 
   -- two steps of one world by one event end in one world
   pub steps_agree : (old : WorldView) (e : Event) (a b : WorldView) → WorldStep switch manager host old e a → WorldStep switch manager host old e b → a ≡ b

@@ -59,8 +59,8 @@ use Rattle.pl_world.specs.Runs.Moment.{Mark, Step}
 use Rattle.pl_world.specs.SwitchActs.{DuringActs, act_done, acts_done, begins, crossed_again, ended, goes_out, granted, in_world, passed, place_noted, redirected, with_late}
 use Rattle.pl_world.specs.WorldRule.{ComesAtHost, ComesAtSwitch, ComesOut, HostTurn, ManagerTurn, SwitchTurn, WorldStep, heard_item}
 use Rattle.pl_world.specs.Worlds.{WorldView}
-use Rattle.pl_world.proofs.Exports.{all_found, data_is_frame, event_is_not_refused, failed_left, Happened, happened, head_is_item, lost_left, manager_acts_left, marked_counted, moved_left, repaired_left, peer_is_port, same_refusal, sent_is_item, step_is_counted, tested, Writes}
-use Rattle.pl_world.proofs.Exports.Happened.{Asked, Departed, Failed, FromHost, Lost, Ordered, OutOfPort, OverLink, PlayedFrame, Repaired, Reported, Ticked}
+use Rattle.pl_world.proofs.Exports.{all_found, anew_left, data_is_frame, event_is_not_refused, failed_left, Happened, happened, head_is_item, lost_left, manager_acts_left, marked_counted, moved_left, peer_is_port, repaired_left, same_refusal, sent_is_item, step_is_counted, tested, Writes}
+use Rattle.pl_world.proofs.Exports.Happened.{Asked, BeganAnew, Departed, Failed, FromHost, Lost, Ordered, OutOfPort, OverLink, PlayedFrame, Repaired, Reported, Ticked}
 
 -- a world of this wiring, and each entry of its journal can be saved
 pub record Keeps (plan of : Plan) (journal : List Entry) : Type 0 where
@@ -433,6 +433,9 @@ module _ (plan : Plan) (switch : SwitchRule) (manager : ManagerRule) (host : Hos
   by_case w happens new none has many saves (PlayedFrame h input skip is turn) =
       turn_saves plan host sends w (skip_noted w h.0 skip) h.0 _ _ new (skip_hosts plan w h.0 skip) many (skipped plan w h.0 skip saves) turn
   by_case w happens new none has many saves (Asked h input is turn) = turn_saves plan host sends w w h.0 _ _ new refl many (λ there. saves) turn
+  by_case w happens new none has many saves (BeganAnew is anew) =
+      subst (λ (x : WorldView). Saves plan x) (sym anew)
+      (anew_left (KeepsSavable plan) (IsSavable plan) (saves_writes plan) w (record { named = tt; carried = tt }) (λ u n more. more) saves)
 
   -- the entries of a step can be saved
   pub step_saves : (old : WorldView) (happens : Event) (new : WorldView) → IsCounted old → refusal old happens ≡ None →

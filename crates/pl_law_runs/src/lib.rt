@@ -6,6 +6,7 @@ pub use determined_runs::{
     a_run_is_determined, a_step_is_determined, rules_that_leave_no_choice_determine_a_run,
     rules_that_leave_no_choice_determine_a_step, the_rules_of_the_fabric_leave_no_choice,
 };
+pub use epochs::restarts_are_counted_in_every_run;
 pub use loose_runs::each_run_is_a_loose_run;
 pub use named_drops::a_switch_drops_frames_for_the_first_cause;
 pub use saved_entries::{
@@ -13,6 +14,7 @@ pub use saved_entries::{
 };
 
 mod determined_runs;
+mod epochs;
 mod loose_runs;
 mod named_drops;
 mod saved_entries;

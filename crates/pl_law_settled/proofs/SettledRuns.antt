@@ -9,7 +9,7 @@ use Rattle.pl_node.specs.HostInputs.{HostRule}
 use Rattle.pl_node.specs.ManagerDuties.{ManagerRule}
 use Rattle.pl_node.specs.SwitchInputs.{SwitchRule}
 use Rattle.pl_manager_rule.specs.Lawful.{IsManagerRule}
-use Rattle.pl_manager_rule.specs.ManagerRule.{manager_rule}
+use Rattle.pl_manager_rule.specs.WholeRule.{whole_rule}
 use Rattle.pl_switch_rule.specs.SwitchRule.{Loose}
 use Rattle.pl_world.specs.declared.limits.Limits.{Limits}
 use Rattle.pl_world.specs.Booting.{CanBegin, booted}
@@ -23,7 +23,7 @@ use Rattle.pl_fabric.specs.Settlings.{Settles}
 use Rattle.pl_fabric.proofs.Exports.{rounds_are_run}
 use Rattle.pl_law_control_plane.specs.ControlPlanes.{control_plane}
 use Rattle.pl_law_votes.specs.Voting.{edge_no}
-use Rattle.pl_law_invariant.proofs.Exports.{first_at_first, run_keeps_all, run_lawful}
+use Rattle.pl_law_invariant.proofs.Exports.{run_keeps_all, run_lawful}
 use Rattle.pl_law_records.specs.Records.{AreCurrent, LinksAreCurrent}
 use Rattle.pl_law_records.proofs.Exports.{run_links, run_ordered, run_reported}
 use Rattle.pl_law_placing.specs.Resting.{HasFirst, HavePositions}
@@ -39,14 +39,14 @@ use Rattle.pl_law_settled.proofs.Records.{are_current, links_current}
 module _ (switch : SwitchRule) (manager : ManagerRule) (host : HostRule) (within : AllowsNoMore switch Loose) (lawful : IsManagerRule manager)
     (sends : HostsSendData host) (owns : HostsSendOwn host) (plan : Plan) (limits : Limits) (moments : List Moment) (new : WorldView) (can : CanBegin plan)
     (run : WorldRun switch manager host (booted plan limits) moments new) where
-  loose : WorldRun Loose manager_rule host (booted plan limits) moments new
-  loose = run_lawful switch manager host within lawful (booted plan limits) moments new (first_at_first plan limits) run
+  loose : WorldRun Loose whole_rule host (booted plan limits) moments new
+  loose = run_lawful switch manager host within lawful (booted plan limits) moments new run
 
   pub run_current : HasSettledQueues new → AreCurrent (control_plane new)
   run_current queues =
       let all = run_keeps_all host sends owns plan limits moments new can loose in
       are_current new all.counted.formed.plan all.gathered (run_reported host sends owns plan limits moments new can loose)
-      (run_ordered host sends plan limits moments new can loose) queues
+      (run_ordered host sends owns plan limits moments new can loose) queues
 
   pub run_links_current : HasSettledQueues new → LinksAreCurrent (control_plane new)
   run_links_current queues =

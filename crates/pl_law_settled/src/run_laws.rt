@@ -23,7 +23,7 @@ use pl_switch_rule::LooseSwitch;
 
 /// In each run of lawful logic from the beginning, wherever the queues are settled, the manager's records are
 /// what the switches would tell now, of places, members and links, and each switch holds the avoid list and
-/// the tree parts of the records.
+/// the tree parts of the records: those of the manager's present epoch, where it began anew.
 pub fn records_are_current_in_every_run_where_queues_are_settled<
     S: LooseSwitch,
     M: LawfulManager,

@@ -2,7 +2,7 @@
 use Rattle.pl_wiring.specs.Plan.{Plan}
 use Rattle.pl_node.specs.HostDuties.{HostsJoinBySending, HostsSendData, HostsSendOwn}
 use Rattle.pl_node.specs.HostInputs.{HostRule}
-use Rattle.pl_manager_rule.specs.ManagerRule.{manager_rule}
+use Rattle.pl_manager_rule.specs.WholeRule.{whole_rule}
 use Rattle.pl_switch_rule.specs.SwitchRule.{Loose}
 use Rattle.pl_switch_rule.proofs.Exports.{loose_steps_are_accounted}
 use Rattle.pl_world.specs.declared.limits.Limits.{Limits}
@@ -21,6 +21,7 @@ groups_are_well host sends owns joins keeps plan limits can = λ moments w run.
     record {
       first = λ s port id frame items within peer head group. first_there w once.come s port id frame items within peer head;
       members = members_are host keeps w
-          (run_joined Loose manager_rule host joins loose_steps_are_accounted sends (booted plan limits) moments w (booted_is_counted plan limits can) (joined_at_first plan limits) run);
+          (run_joined Loose whole_rule host joins loose_steps_are_accounted sends (booted plan limits) moments w (booted_is_counted plan limits can)
+          (joined_at_first plan limits) run);
       trees = know_trees w (run_keeps_all host sends owns plan limits moments w can run) once.trees;
     }

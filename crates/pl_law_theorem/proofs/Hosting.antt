@@ -35,7 +35,9 @@ use Rattle.pl_law_addresses.specs.EdgeAddresses.{is_settled}
 use Rattle.pl_law_addresses.specs.FreeVmids.{AreFreeVmids, is_free, is_in}
 use Rattle.pl_law_addresses.specs.OwnFrames.{IsOwnItem}
 use Rattle.pl_law_addresses.proofs.Exports.{number_past, exists_at, granted_here, local_here, number_within, used_is}
+use Rattle.pl_law_epochs.proofs.Exports.{world_tables}
 use Rattle.pl_law_invariant.specs.ControlInvariant.{ControlInvariant}
+use Rattle.pl_law_ledger.specs.Leading.{HoldsLedger}
 use Rattle.pl_law_ledger.specs.Ledgers.{IsBacked, IsLedger, ledger}
 use Rattle.pl_law_ledger.proofs.Exports.{grounds, IsLast, same_says, Says, source_is, spent_there}
 use Rattle.pl_law_flights.specs.Standing.{KnowsHosts, StandsOn, StandsOnHosts}
@@ -84,9 +86,11 @@ next_free [] grants vmid are few is = by (cases_lt (length grants) 65535)
   where
     by : (length grants < 65535) ⊎ (65535 ≤ length grants) → (unless_free (grant_number grants vmid) ≡ None) × (vmid ≤ 65535)
     by (inl less) =
-        let same : length grants + 1 ≡ vmid = same_Some (length grants + 1) vmid (sym (cond-true (nat_lt (length grants) 65535) (Some (length grants + 1)) None (lt-ltb (length grants) 65535 less)) ∙ is) in
+        let same : length grants + 1 ≡ vmid = same_Some (length grants + 1) vmid
+        (sym (cond-true (nat_lt (length grants) 65535) (Some (length grants + 1)) None (lt-ltb (length grants) 65535 less)) ∙ is) in
         (ap (λ m. unless_free (grant_number grants m)) (sym same) ∙ ap unless_free (number_past grants), omega (arith, same, less))
-    by (inr more) = absurd (none-some vmid (sym (cond-false (nat_lt (length grants) 65535) (Some (length grants + 1)) None (le-ltb (length grants) 65535 more)) ∙ is))
+    by (inr more) = absurd (none-some vmid (sym (cond-false (nat_lt (length grants) 65535) (Some (length grants + 1)) None (le-ltb (length grants) 65535 more))
+        ∙ is))
 
 -- where there is none, the largest was given, and no address is free
 none_next : (freed : List ℕ) (grants : List Grant) → not (is_some (next_vmid freed grants)) ≡ true → (freed ≡ []) × (65535 ≤ length grants)
@@ -105,7 +109,8 @@ IsLiveAt live there entry = Unit {0}
 live_at : (live : ℕ → Bool) (entries : List Entry) (there : EdgePort) → AllByRecursion (IsLiveAt live there) entries → are_live_there live entries there ≡ true
 live_at live [] there all = refl
 live_at live (Granted y h e p ∷ entries) there all =
-    and_from (not (same_edge_port (at_port e.0 p) there) || live (pmac_number y)) (are_live_there live entries there) (elim (cases_Bool (same_edge_port (at_port e.0 p) there)) [
+    and_from (not (same_edge_port (at_port e.0 p) there) || live (pmac_number y)) (are_live_there live entries there)
+    (elim (cases_Bool (same_edge_port (at_port e.0 p) there)) [
       | inl same ↦ or_right (not (same_edge_port (at_port e.0 p) there)) (live (pmac_number y)) (all.0 same)
       | inr other ↦ or_left (not (same_edge_port (at_port e.0 p) there)) (live (pmac_number y)) (ap not other)
     ]) (live_at live entries there all.1)
@@ -114,7 +119,8 @@ live_at live (entry ∷ entries) there all = live_at live entries there all.1
 -- ---- the address that a host was granted last at a port, by its ledger alone
 same_granted : (past : List Entry) (h : ℕ) (there : EdgePort) → granted_at past h there ≡ granted_at (ledger past) h there
 same_granted [] h there = refl
-same_granted (Granted y g e p ∷ past) h there = ap (λ (o : Option Pmac). if (g.0 == h) && same_edge_port (at_port e.0 p) there then Some y else o) (same_granted past h there)
+same_granted (Granted y g e p ∷ past) h there = ap (λ (o : Option Pmac). if (g.0 == h) && same_edge_port (at_port e.0 p) there then Some y else o)
+    (same_granted past h there)
 same_granted (entry ∷ past) h there = same_granted past h there
 
 module _ (w : WorldView) (kept : ControlInvariant w) (entered : IsLedger w) where
@@ -122,7 +128,8 @@ module _ (w : WorldView) (kept : ControlInvariant w) (entered : IsLedger w) wher
   size_at t v found = all_found IsShaped w.switches t v kept.counted.shaped found
 
   -- the address that a host has in use at a port is the last that it was granted there
-  used_so : (t : ℕ) (v : SwitchView) → slice_get w.switches t ≡ Some v → (port vmid h : ℕ) (amac : Mac) → is_settled v.place ≡ true → in_use (grants_at v port) amac ≡ Some vmid →
+  used_so : (t : ℕ) (v : SwitchView) → slice_get w.switches t ≡ Some v → (port vmid h : ℕ) (amac : Mac) → is_settled v.place ≡ true →
+      in_use (grants_at v port) amac ≡ Some vmid →
       mac_of_host w.plan h ≡ Some amac → granted_at (reverse w.journal) h (at_port t port) ≡ Some (address_at_port v port vmid)
   used_so t v found port vmid h amac settled uses of =
       let u = used_is (grants_at v port) amac vmid uses in
@@ -138,7 +145,8 @@ module _ (w : WorldView) (kept : ControlInvariant w) (entered : IsLedger w) wher
   live_so t v found port none_free =
       let past : List Entry = reverse w.journal in
       ap (λ (f : Says). f.all_live (is_live past) (at_port t port)) (sym (same_says w.plan past))
-      ∙ live_at (is_live past) (ledger past) (at_port t port) (each_entry (IsBacked w.switches) (IsLiveAt (is_live past) (at_port t port)) one_live (ledger past) entered.backed)
+      ∙ live_at (is_live past) (ledger past) (at_port t port) (each_entry (IsBacked w.switches) (IsLiveAt (is_live past) (at_port t port)) one_live
+      (ledger past) entered.backed)
     where
       one_live : (entry : Entry) → IsBacked w.switches entry → IsLiveAt (is_live (reverse w.journal)) (at_port t port) entry
       one_live (Granted y h e p) there = λ same.
@@ -146,11 +154,14 @@ module _ (w : WorldView) (kept : ControlInvariant w) (entered : IsLedger w) wher
           let at : y.port ≡ port = sym there.port_is ∙ eqb-true p port parts.1 in
           let view : there.view ≡ v = same_Some there.view v (sym there.found ∙ ap (slice_get w.switches) (eqb-true e.0 t parts.0) ∙ found) in
           let numbered : grant_number (grants_at v port) y.vmid ≡ Some there.grant =
-          ap (λ n. grant_number (grants_at v n) y.vmid) (sym at) ∙ ap (λ (u : SwitchView). grant_number (grants_at u y.port) y.vmid) (sym view) ∙ (granted_parts there.view y there.grant there.is).1 in
-          let listed = (kept.addresses.addressed.address_tables t v found).free port in
+          ap (λ n. grant_number (grants_at v n) y.vmid) (sym at) ∙ ap (λ (u : SwitchView). grant_number (grants_at u y.port) y.vmid) (sym view) ∙
+          (granted_parts there.view y there.grant there.is).1 in
+          let listed = (world_tables w kept.counted kept.addresses t v found).free port in
           let unlisted : is_in y.vmid (freed_at v port) ≡ false = ap (λ (vs : List ℕ). is_in y.vmid vs) none_free in
-          let held : is_held there.grant.held ≡ true = not_true (is_held there.grant.held) (ap is_free (sym numbered) ∙ sym (listed.listed y.vmid) ∙ unlisted) in
-          ap (λ (f : Says). f.live (pmac_number y)) (sym (same_says w.plan (reverse w.journal))) ∙ (entered.grants e.0 there.view y there.grant there.found there.is).live ∙ held
+          let held : is_held there.grant.held ≡ true = not_true (is_held there.grant.held)
+          (ap is_free (sym numbered) ∙ sym (listed.listed y.vmid) ∙ unlisted) in
+          ap (λ (f : Says). f.live (pmac_number y)) (sym (same_says w.plan (reverse w.journal))) ∙
+          (entered.grants e.0 there.view y there.grant there.found there.is).live ∙ held
       one_live entry there = tt
 
   -- a port that has given the largest vmid
@@ -164,7 +175,8 @@ module _ (w : WorldView) (kept : ControlInvariant w) (entered : IsLedger w) wher
       let e = entered.grants t v x at.0 found is in
       ap (λ (f : Says). f.spent (at_port t port)) (sym (same_says w.plan (reverse w.journal)))
       ∙ spent_there (ledger (reverse w.journal)) (pmac_number x) (at_port t port)
-      (each_entry (IsBacked w.switches) (IsLast (pmac_number x)) (last_entry x (fits_at w kept entered t v x at.0 found is) refl) (ledger (reverse w.journal)) entered.backed) e.there
+      (each_entry (IsBacked w.switches) (IsLast (pmac_number x)) (last_entry x (fits_at w kept entered t v x at.0 found is) refl)
+      (ledger (reverse w.journal)) entered.backed) e.there
     where
       last_entry : (x : Pmac) → PmacFits x → x.vmid ≡ 65535 → (entry : Entry) → IsBacked w.switches entry → IsLast (pmac_number x) entry
       last_entry x fits last (Granted y h e p) there = λ same.
@@ -185,11 +197,12 @@ module _ (w : WorldView) (kept : ControlInvariant w) (entered : IsLedger w) wher
   knows_hosts : (t : ℕ) (v : SwitchView) → slice_get w.switches t ≡ Some v → KnowsHosts w.plan (reverse w.journal) t v
   unfolding view_at
   knows_hosts t v found =
-      let address_table = kept.addresses.addressed.address_tables t v found in
+      let address_table = world_tables w kept.counted kept.addresses t v found in
       let shaped = size_at t v found in
       record {
         unheard = λ port free.
-            let none : (port_of v port).heard ≡ None = ap (λ (u : SwitchView). (port_of u port).heard) (sym (view_at t v found)) ∙ kept.placed.strangers t port free in
+            let none : (port_of v port).heard ≡ None = ap (λ (u : SwitchView). (port_of u port).heard) (sym (view_at t v found))
+            ∙ kept.placed.strangers t port free in
             or_right (port_of v port).host (is_none (port_of v port).heard) (ap is_none none);
         positions = λ n is.
             let own = (kept.placed.own t).position n (ap (λ (u : SwitchView). u.place.position) (view_at t v found) ∙ is) in
@@ -211,29 +224,32 @@ module _ (w : WorldView) (kept : ControlInvariant w) (entered : IsLedger w) wher
             is_next w kept entered t v found x here (ap unless_free (granted_here v x here) ∙ is.0) (subst (λ n. port < n) (sym size) within) shaped.high is.1;
       }
 
-  pub stands_on : StandsOn w
-  stands_on = record {
-    places = knows_places w kept;
-    neighbours = knows_neighbours w kept;
-    addresses = knows_addresses w kept entered;
-    evidence = (grounds w kept).neighbours;
-  }
-
   own_item : (h id : ℕ) (frame : List ℕ) → Contains (items_at w.from_hosts h) (Data id frame) → mac_of_host w.plan h ≡ Some (source_of frame)
   own_item h id frame there = elim (cases_lt h (length w.from_hosts)) [
-    | inr past ↦ (let none = (subst (λ (xs : List Item). Contains xs (Data id frame)) (get_or_past w.from_hosts h [] past) there).1 in absurd (omega (arith, none)))
+    | inr past ↦ (let none = (subst (λ (xs : List Item). Contains xs (Data id frame)) (get_or_past w.from_hosts h [] past) there).1 in absurd
+        (omega (arith, none)))
     | inl within ↦
         let formed = kept.counted.formed in
         let host = exists_at w.plan.hosts h (subst (λ n. h < n) formed.from_hosts within) in
         let view = exists_at w.hosts h (subst (λ n. h < n) (formed.from_hosts ∙ sym formed.hosts) within) in
-        let all = (kept.addresses.own h host.0 view.0 host.1 view.1).sends in
-        let mine = All-contains (IsOwnItem (me_of host.0)) (items_at w.from_hosts h) (Data id frame) (All-from_recursion (IsOwnItem (me_of host.0)) (items_at w.from_hosts h) all) there in
+        let all = (kept.own h host.0 view.0 host.1 view.1).sends in
+        let mine = All-contains (IsOwnItem (me_of host.0)) (items_at w.from_hosts h) (Data id frame)
+        (All-from_recursion (IsOwnItem (me_of host.0)) (items_at w.from_hosts h) all) there in
         ap (option_map (λ (x : Host). x.mac)) host.1 ∙ ap Some (sym (source_is host.0 frame mine))
   ]
 
   pub stands_on_hosts : StandsOnHosts w
   stands_on_hosts = record {
     hosts = knows_hosts;
-    at_ports = λ h attachment is. let edge : IsAtEdge w.plan attachment = all_found (IsAtEdge w.plan) w.attachments h attachment kept.hosts is in (edge.free, edge.port);
+    at_ports = λ h attachment is. let edge : IsAtEdge w.plan attachment = all_found (IsAtEdge w.plan) w.attachments h attachment kept.hosts is in
+        (edge.free, edge.port);
     own = own_item;
   }
+
+pub stands_on : (w : WorldView) → ControlInvariant w → HoldsLedger w → StandsOn w
+stands_on w kept holds = record {
+  places = knows_places w kept;
+  neighbours = knows_neighbours w kept;
+  addresses = knows_addresses w kept holds;
+  evidence = (grounds w kept).neighbours;
+}

@@ -53,13 +53,15 @@ module _ (w : WorldView) (kept : ControlInvariant w) where
             let first : a.1.pod ≡ p = same_Some a.1.pod p (sym a.1.of_pod ∙ ap pod_of edge) in
             let second : b.1.pod ≡ p = same_Some b.1.pod p (sym b.1.of_pod ∙ ap pod_of up) in
             let one : a.0 ≡ b.0 =
-            fixed_are_apart f.plan f.view f.says kept.counted.formed.plan kept.voting p a.1.i b.1.i 0 a.0 b.0 (a.1.edge ∙ ap (λ q. Edge q a.1.i) first) (b.1.edge ∙ ap (λ q. Edge q b.1.i) second)
+            fixed_are_apart f.plan f.view f.says kept.counted.formed.plan kept.voting p a.1.i b.1.i 0 a.0 b.0 (a.1.edge ∙ ap (λ q. Edge q a.1.i) first)
+            (b.1.edge ∙ ap (λ q. Edge q b.1.i) second)
             a.1.position b.1.position in
             same_Some x y (sym a.1.number ∙ ap (λ z. (f.view z).place.pod) one ∙ b.1.number);
       }
 
   -- what was heard at a port is what the neighbour knows
-  heard_so : (t : ℕ) (v : SwitchView) (q : ℕ) (s : SwitchNo) (p : ℕ) (get : Place → Option ℕ) → ((a b : Place) → ((x : ℕ) → get nowhere ≡ Some x → ⊥)) → slice_get w.switches t ≡ Some v → peer_of w.plan t q ≡ Switch s p →
+  heard_so : (t : ℕ) (v : SwitchView) (q : ℕ) (s : SwitchNo) (p : ℕ) (get : Place → Option ℕ) → ((a b : Place) → ((x : ℕ) → get nowhere ≡ Some x → ⊥)) →
+      slice_get w.switches t ≡ Some v → peer_of w.plan t q ≡ Switch s p →
       ((n : Neighbour) → (port_of v q).heard ≡ Some n → (x : ℕ) → get n.place ≡ Some x → get ((control_plane w).view s.0).place ≡ Some x) →
       (x : ℕ) → get (place_at v q) ≡ Some x → get (place_in w.switches s.0) ≡ Some x
   heard_so t v q s p get none found peer so x is = by (port_of v q).heard refl is
@@ -74,12 +76,16 @@ module _ (w : WorldView) (kept : ControlInvariant w) where
       let f = control_plane w in
       let here = view_at t v found in
       let told = λ (q : ℕ) (s : SwitchNo) (p : ℕ) (peer : peer_of w.plan t q ≡ Switch s p) (n : Neighbour) (heard : (port_of v q).heard ≡ Some n).
-      ((kept.placed.links s.0 p t q (adjacent_turned f.plan t q s.0 p kept.counted.formed.plan peer)).recorded.known n (ap (λ (u : SwitchView). (port_of u q).heard) here ∙ heard)).so in
+      ((kept.placed.links s.0 p t q (adjacent_turned f.plan t q s.0 p kept.counted.formed.plan peer)).recorded.known n
+      (ap (λ (u : SwitchView). (port_of u q).heard) here ∙ heard)).so in
       record {
         own = ap (λ (u : SwitchView). u.place) (sym here) ∙ sym (place_is w t);
-        level = λ q s p n peer is. heard_so t v q s p (λ (r : Place). r.level) (λ a b x e. none-some x e) found peer (λ m heard x known. (told q s p peer m heard).level x known) n is;
-        position = λ q s p n peer is. heard_so t v q s p (λ (r : Place). r.position) (λ a b x e. none-some x e) found peer (λ m heard x known. (told q s p peer m heard).position x known) n is;
-        pod = λ q s p n peer is. heard_so t v q s p (λ (r : Place). r.pod) (λ a b x e. none-some x e) found peer (λ m heard x known. (told q s p peer m heard).pod x known) n is;
+        level = λ q s p n peer is. heard_so t v q s p (λ (r : Place). r.level) (λ a b x e. none-some x e) found peer
+            (λ m heard x known. (told q s p peer m heard).level x known) n is;
+        position = λ q s p n peer is. heard_so t v q s p (λ (r : Place). r.position) (λ a b x e. none-some x e) found peer
+            (λ m heard x known. (told q s p peer m heard).position x known) n is;
+        pod = λ q s p n peer is. heard_so t v q s p (λ (r : Place). r.pod) (λ a b x e. none-some x e) found peer
+            (λ m heard x known. (told q s p peer m heard).pod x known) n is;
         linked = λ q usable. by_peer q usable (peer_of w.plan t q) refl;
       }
     where

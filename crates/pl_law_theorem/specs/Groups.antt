@@ -2,7 +2,7 @@
 use Rattle.std.specs.Prelude.{List}
 use Rattle.pl_wiring.specs.Plan.{Plan}
 use Rattle.pl_node.specs.HostInputs.{HostRule}
-use Rattle.pl_manager_rule.specs.ManagerRule.{manager_rule}
+use Rattle.pl_manager_rule.specs.WholeRule.{whole_rule}
 use Rattle.pl_switch_rule.specs.SwitchRule.{Loose}
 use Rattle.pl_world.specs.declared.limits.Limits.{Limits}
 use Rattle.pl_world.specs.Booting.{booted}
@@ -19,4 +19,4 @@ pub record GroupsArriveWell (host : HostRule) (w : WorldView) : Type 0 where
 
 -- so it is in every run
 abbrev pub GroupsAreWell : HostRule → Plan → Limits → Type 0
-GroupsAreWell host plan limits = (moments : List Moment) (w : WorldView) → WorldRun Loose manager_rule host (booted plan limits) moments w → GroupsArriveWell host w
+GroupsAreWell host plan limits = (moments : List Moment) (w : WorldView) → WorldRun Loose whole_rule host (booted plan limits) moments w → GroupsArriveWell host w

@@ -1,7 +1,8 @@
-ghost use Rattle.pl_manager_rule.specs.ManagerRule.{manager_rule};
+ghost use Rattle.pl_manager_rule.specs.WholeRule.{whole_rule};
 ghost use Rattle.pl_switch_rule.specs.SwitchRule.{Loose};
 ghost use Rattle.pl_world.specs.Runs.{InEveryRun};
 ghost use Rattle.pl_law_control_plane.specs.ControlPlanes.{control_plane};
+ghost use Rattle.pl_law_ledger.specs.Ledgers.{WhereNumbersSuffice};
 ghost use Rattle.pl_law_theorem.specs.Invariant.{CopiesAreInOrder, HostsAreInOrder, NetworkInvariant, PlacesAreInOrder, RecordsAreInOrder};
 
 use crate::{lawful_logic_is_one_lossy_switch, lawful_logic_writes_what_is_so};
@@ -40,16 +41,16 @@ use pl_switch_rule::LooseSwitch;
 
 /// In every run edge switches come to their places as they should.
 pub fn places_are_in_order_in_every_run<H: HostLogic>()
-    ensures { InEveryRun Loose manager_rule H.rule PlacesAreInOrder }
+    ensures { InEveryRun Loose whole_rule H.rule PlacesAreInOrder }
 {
     every_run_keeps_edge_switches_placing::<H>();
     each_number_given_is_below_the_number_of_pods::<H>();
     pods_and_positions_are_of_one_byte_in_every_run::<H>();
 }
 
-/// In every run hosts are attended to, and the journal has each grant and each number.
+/// In every run hosts are attended to, and the journal has each grant and each number, where the numbers of an epoch suffice.
 pub fn hosts_are_in_order_in_every_run<H: LawfulHost>()
-    ensures { InEveryRun Loose manager_rule H.rule HostsAreInOrder }
+    ensures { InEveryRun Loose whole_rule H.rule (WhereNumbersSuffice HostsAreInOrder) }
 {
     no_two_hosts_stand_at_one_place::<H>();
     hosts_are_being_registered_in_every_run::<H>();
@@ -60,7 +61,7 @@ pub fn hosts_are_in_order_in_every_run<H: LawfulHost>()
 
 /// In every run what the manager knows and ordered follows from what it was told.
 pub fn records_are_in_order_in_every_run<H: HostLogic>()
-    ensures { InEveryRun Loose manager_rule H.rule (λ new. RecordsAreInOrder (control_plane new)) }
+    ensures { InEveryRun Loose whole_rule H.rule (λ new. RecordsAreInOrder (control_plane new)) }
 {
     reports_are_kept_in_every_run::<H>();
     links_are_told_in_every_run::<H>();
@@ -74,16 +75,16 @@ pub fn records_are_in_order_in_every_run<H: HostLogic>()
 
 /// In every run what is told and ordered is so, and of the frames of one root at most one copy comes to each port.
 pub fn copies_are_in_order_in_every_run<H: HostLogic>()
-    ensures { InEveryRun Loose manager_rule H.rule CopiesAreInOrder }
+    ensures { InEveryRun Loose whole_rule H.rule CopiesAreInOrder }
 {
     what_is_told_and_ordered_is_so_in_every_run::<H>();
     one_copy_may_come_to_each_port_in_every_run::<H>();
     frames_of_a_root_are_alone_in_every_run::<H>();
 }
 
-/// So lawful logic has the invariant of the network at each moment of each run from the beginning.
+/// So lawful logic has the invariant of the network at each moment of each run from the beginning, where they do.
 pub fn lawful_logic_keeps_the_invariant<S: LooseSwitch, M: LawfulManager, H: LawfulHost>()
-    ensures { InEveryRun S.rule M.rule H.rule NetworkInvariant }
+    ensures { InEveryRun S.rule M.rule H.rule (WhereNumbersSuffice NetworkInvariant) }
 {
     each_run_of_lawful_logic_is_a_run_of_the_rules::<S, M, H>();
     each_run_is_a_loose_run::<S, M, H>();

@@ -1,4 +1,5 @@
 ghost use Rattle.pl_world.specs.Runs.{InEveryRun};
+ghost use Rattle.pl_law_ledger.specs.Ledgers.{WhereNumbersSuffice};
 ghost use Rattle.pl_law_theorem.specs.OneSwitch.{IsOneSwitch, SureFramesArrive};
 
 use crate::invariant::lawful_logic_keeps_the_invariant;
@@ -18,10 +19,11 @@ pub fn sure_frames_arrive<S: LooseSwitch, M: LawfulManager, H: LawfulHost>()
     each_run_keeps_the_wiring::<S, M, H>();
 }
 
-/// Whatever the wiring, the events and the ports that switches choose among their candidates: at each moment of
-/// each run from the beginning a fabric of lawful logic is one lossy switch.
+/// Whatever the wiring, the events and the ports that switches choose among their candidates, and however often the
+/// fabric manager begins anew: at each moment of each run from the beginning a fabric of lawful logic is one lossy
+/// switch, as long as no more steps are made than the manager has numbers for addresses.
 pub fn lawful_logic_is_one_switch<S: LooseSwitch, M: LawfulManager, H: LawfulHost>()
-    ensures { InEveryRun S.rule M.rule H.rule (IsOneSwitch S.rule M.rule H.rule) }
+    ensures { InEveryRun S.rule M.rule H.rule (WhereNumbersSuffice (IsOneSwitch S.rule M.rule H.rule)) }
 {
     lawful_logic_keeps_the_invariant::<S, M, H>();
     sure_frames_arrive::<S, M, H>();

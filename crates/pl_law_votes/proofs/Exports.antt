@@ -8,5 +8,5 @@ pub use Rattle.pl_law_votes.proofs.Granted.{has_new}
 pub use Rattle.pl_law_votes.proofs.Holding.{after_proposal, freed_is}
 pub use Rattle.pl_law_votes.proofs.Majority.{one_port_to}
 pub use Rattle.pl_law_votes.proofs.Messages.{SaysPlace, SaysProposal, sends_none, tick_says, TickSays}
-pub use Rattle.pl_law_votes.proofs.StepsKeepVotes.{plane_votes}
+pub use Rattle.pl_law_votes.proofs.StepsKeepVotes.{votes_on}
 pub use Rattle.pl_law_votes.proofs.Wired.{ids_differ, is_there, leads_up, levels_apart, number_there, same_end}

@@ -24,6 +24,8 @@ use Rattle.pl_switch_rule.specs.SwitchRule.{Loose, control_comes, data_comes, he
 use Rattle.pl_law_control_plane.specs.ControlPlanes.{AreAdjacent, ControlPlane, message_in, messages_of, sends, unless}
 use Rattle.pl_law_control_plane.specs.PlaneSteps.{IsActed, MessageIsTaken, LeftOver, PlaneStep, SwitchTurns}
 use Rattle.pl_law_control_plane.specs.PlaneSteps.PlaneStep.{Carried, Entered, Heard, Left, Managed, Ordered, Ticked}
+use Rattle.pl_law_control_plane.specs.Restarts.{OnPlane}
+use Rattle.pl_law_control_plane.specs.Restarts.OnPlane.{BeginsAnew, Steps}
 use Rattle.pl_law_votes.specs.Counting.{IsCounting, LeadsToAggregation}
 use Rattle.pl_law_votes.specs.Pairs.{IsGoodPair, Voter, voter_of}
 use Rattle.pl_law_votes.specs.Voting.{CanTell, IsVoting, aggregation_no, edge_no}
@@ -279,12 +281,8 @@ plane_votes manager f g can v (Managed s id told mid there named taken turns) =
     left_votes f.plan can.plan mid g turns.view (λ t port. record { gone = []; split = sym (turns.says t port) })
     (left_votes f.plan can.plan f mid taken.left.view taken.left.says v)
 
--- the wiring stays
-pub plane_plan : (manager : ManagerRule) (f g : ControlPlane) → PlaneStep Loose manager f g → g.plan ≡ f.plan
-plane_plan manager f g (Left left) = left.plan
-plane_plan manager f g (Ticked s turns) = turns.acted.plan
-plane_plan manager f g (Heard t q s port frame mid adjacent control taken turns) = turns.acted.plan ∙ taken.left.plan
-plane_plan manager f g (Carried t q s port frame mid adjacent control carries taken turns) = turns.acted.plan ∙ taken.left.plan
-plane_plan manager f g (Entered s port frame edge within free control turns) = turns.acted.plan
-plane_plan manager f g (Ordered s says mid taken turns) = turns.acted.plan ∙ taken.left.plan
-plane_plan manager f g (Managed s id told mid there named taken turns) = turns.plan ∙ taken.left.plan
+-- in a step, and where the manager begins anew
+pub votes_on : (manager : ManagerRule) (f g : ControlPlane) → CanTell f → IsVoting f.plan f.view f.says → OnPlane Loose manager f g → IsVoting f.plan g.view g.says
+votes_on manager f g can v (Steps step) = plane_votes manager f g can v step.0
+votes_on manager f g can v (BeginsAnew anew) =
+    left_votes f.plan can.plan f g anew.alike.view (λ t port. record { gone = []; split = sym (anew.alike.says t port) }) v

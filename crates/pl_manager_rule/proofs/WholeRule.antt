@@ -1,14 +1,14 @@
 -- In the first epoch, where nothing is known by a report alone, the manager does with each word what its rule of one epoch says.
-use Rattle.std.proofs.Common.{◌≡◌, List, [], ◌∷◌, refl, sym, ap, subst, ◌∙◌}
+use Rattle.std.proofs.Common.{◌≡◌, [], ◌∷◌, refl, sym, ap, subst, ◌∙◌}
 use Rattle.pl_frame.specs.declared.address.SwitchId.{SwitchId}
 use Rattle.pl_gathering.specs.Acting.{Done, treats_all}
 use Rattle.pl_node.specs.declared.acts.ManagerAct.{ManagerAct}
 use Rattle.pl_node.specs.declared.messages.ToManager.{ToManager}
 use Rattle.pl_node.specs.declared.messages.ToManager.TheVariants as tell
 use Rattle.pl_node.specs.ManagerViews.{ManagerView}
-use Rattle.pl_manager_rule.specs.ManagerRule.{ManagerStep, manager_hears, manager_rule, view_after}
+use Rattle.pl_manager_rule.specs.ManagerRule.{ManagerStep, manager_hears, view_after}
 use Rattle.pl_manager_rule.specs.Treating.{Treating, at_rest, follows, treats}
-use Rattle.pl_manager_rule.specs.WholeRule.{IsFirst, manager_steps, whole_rule}
+use Rattle.pl_manager_rule.specs.WholeRule.{manager_steps}
 use Rattle.pl_manager_rule.proofs.Aging.{aged_reported}
 use Rattle.pl_manager_rule.proofs.Treating.{at_first, is_at_first, passed_over, treated_alone}
 
@@ -82,26 +82,3 @@ reported_stays view s (tell.End epoch) = refl
 reported_stays view s (tell.Trapped old new number) = refl
 reported_stays view s (tell.Query asker asker_ip ip) = refl
 reported_stays view s (tell.Members group any) = refl
-
-pub first_ruled : (before : ManagerView) (s : SwitchId) (says : ToManager) (after : ManagerView) (acts : List ManagerAct) → IsFirst before →
-    whole_rule before s says after acts → manager_rule before s says after acts × IsFirst after
-first_ruled before s says after acts first ruled =
-    let same = same_step before s says first.0 first.1 in
-    let view : after ≡ (manager_hears before s says).view = ruled.0 ∙ ap (λ (step : ManagerStep). step.view) same in (
-      (view, ruled.1 ∙ ap (λ (step : ManagerStep). step.acts) same),
-      (
-        ap (λ (w : ManagerView). w.epoch) view ∙ epoch_stays before s says ∙ first.0,
-        ap (λ (w : ManagerView). w.learnt.reported) view ∙ reported_stays before s says ∙ first.1,
-      ),
-    )
-
--- and by the rule of one epoch
-pub first_stays : (before : ManagerView) (s : SwitchId) (says : ToManager) (after : ManagerView) (acts : List ManagerAct) → IsFirst before →
-    manager_rule before s says after acts → manager_rule before s says after acts × IsFirst after
-first_stays before s says after acts first ruled = (
-  ruled,
-  (
-    ap (λ (w : ManagerView). w.epoch) ruled.0 ∙ epoch_stays before s says ∙ first.0,
-    ap (λ (w : ManagerView). w.learnt.reported) ruled.0 ∙ reported_stays before s says ∙ first.1,
-  ),
-)

@@ -1,6 +1,6 @@
 -- The rule of the manager over all its epochs. In the first it treats each word as it comes, by the rule of one epoch. In each later one it knows nothing
 -- at first, and hears a report of each switch: until all of these have ended it keeps what comes, and says nothing.
-use Rattle.std.specs.Prelude.{◌≡◌, []}
+use Rattle.std.specs.Prelude.{◌≡◌}
 use Rattle.pl_frame.specs.declared.address.SwitchId.{SwitchId}
 use Rattle.pl_gathering.specs.Acting.{Step, steps}
 use Rattle.pl_gathering.specs.Gathering.{Gathered}
@@ -37,7 +37,3 @@ manager_steps view s says = as_step (steps treats waits_for_places follows (gath
 -- the rule of this fabric manager: just that step
 abbrev pub whole_rule : ManagerRule
 whole_rule before s says after acts = (after ≡ (manager_steps before s says).view) × (acts ≡ (manager_steps before s says).acts)
-
--- a manager that never began anew: in the first epoch no address is known by a report alone
-abbrev pub IsFirst : ManagerView → Type 0
-IsFirst view = (view.epoch ≡ 0) × (view.learnt.reported ≡ [])

@@ -79,6 +79,7 @@ impl<S: SwitchLogic, M: ManagerLogic, H: HostLogic, W: Watcher<S, M, H>> Player<
             Command::Sweep(times) => self.sweep(times),
             Command::Settle(rounds) => self.settle(rounds),
             Command::Drain(sweeps) => self.drain(sweeps),
+            Command::Restart => self.happen(&Event::Restart),
             Command::Random(number, steps) => self.random(number, steps),
             Command::ExpectArrived(h, many) => self.expect_arrived(h, many),
             Command::ExpectDropped(cause, many) => self.expect_dropped(cause, many),

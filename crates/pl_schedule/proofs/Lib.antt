@@ -1,5 +1,6 @@
 pub mod Forms
 pub mod Ticking
+pub mod Greeting
 pub mod Delivered
 pub mod Failing
 pub mod Refusing

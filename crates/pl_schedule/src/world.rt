@@ -186,5 +186,6 @@ mod happen;
 mod look;
 mod order;
 mod refusing;
+mod restart;
 mod step;
 mod steps;

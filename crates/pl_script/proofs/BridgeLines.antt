@@ -5,7 +5,7 @@ use Rattle.std.proofs.lemmas.List.{drop_more}
 use Rattle.std.proofs.lemmas.Option.{same_Some}
 use Rattle.pl_wiring.specs.Plan.{Plan}
 use Rattle.pl_script.specs.declared.command.Command.{Command}
-use Rattle.pl_script.specs.declared.command.Command.TheVariants.{Deliver, Drain, ExpectAddress, ExpectArrived, ExpectDropped, ExpectSettled, Fail, Join, Leave, Lose, Move, Random, Raw, Repair, Retry, Send, Settle, Start, Sweep, Tick}
+use Rattle.pl_script.specs.declared.command.Command.TheVariants.{Deliver, Drain, ExpectAddress, ExpectArrived, ExpectDropped, ExpectSettled, Fail, Join, Leave, Lose, Move, Random, Raw, Repair, Retry, Send, Settle, Start, Sweep, Tick, Restart}
 use Rattle.pl_script.specs.declared.error.ScriptError.{ScriptError}
 use Rattle.pl_script.specs.declared.error.ScriptError.TheVariants.{Line}
 use Rattle.pl_script.specs.declared.error.ScriptReason.TheVariants.{Word}
@@ -47,6 +47,7 @@ module _ (lines front : List ScriptLine) (n : ℕ) (line : ScriptLine) (within :
 kept : (command other : Command) → for_bridges command ≡ Some other → RepairsNoLink other
 kept (Repair a b) other is = absurd (cc)
 kept (Random number steps) other is = absurd (cc)
+kept Restart other is = absurd (cc)
 kept (ExpectAddress h pmac) other is = absurd (cc)
 kept ExpectSettled other is = absurd (cc)
 kept (Start who) other is = subst RepairsNoLink (same_Some (Start who) other is) tt

@@ -1,9 +1,9 @@
--- The meaning of a script that is played on learning bridges. These have no addresses of the fabric, no rounds and nothing that could settle, and a link
--- that was left out of their tree stays out: the lines that speak of that are refused.
+-- The meaning of a script that is played on learning bridges. These have no addresses of the fabric, no manager, no rounds and nothing that could settle, and a
+-- link that was left out of their tree stays out: the lines that speak of that are refused.
 use Rattle.std.specs.Prelude.{ℕ, List, [], ◌∷◌, Option, None, Some, Result, Ok, Err}
 use Rattle.pl_wiring.specs.Plan.{Plan}
 use Rattle.pl_script.specs.declared.command.Command.{Command}
-use Rattle.pl_script.specs.declared.command.Command.TheVariants.{Drain, ExpectAddress, ExpectSettled, Random, Repair, Settle}
+use Rattle.pl_script.specs.declared.command.Command.TheVariants.{Drain, ExpectAddress, ExpectSettled, Random, Repair, Restart, Settle}
 use Rattle.pl_script.specs.declared.error.ScriptError.{ScriptError}
 use Rattle.pl_script.specs.declared.error.ScriptError.TheVariants.{Line}
 use Rattle.pl_script.specs.declared.error.ScriptReason.TheVariants.{Word}
@@ -14,6 +14,7 @@ use Rattle.pl_script.specs.Meaning.{script_of}
 abbrev pub for_bridges : Command → Option Command
 for_bridges (Repair a b) = None
 for_bridges (Random number steps) = None
+for_bridges Restart = None
 for_bridges (ExpectAddress h pmac) = None
 for_bridges ExpectSettled = None
 for_bridges (Settle sweeps) = Some (Drain sweeps)

@@ -11,7 +11,7 @@ use Rattle.pl_script.specs.declared.command.Count.TheVariants as counted
 use Rattle.pl_script.specs.declared.error.ScriptReason.{ScriptReason}
 use Rattle.pl_script.specs.declared.error.ScriptReason.TheVariants as reason
 use Rattle.pl_script.specs.declared.verb.Verb.{Verb}
-use Rattle.pl_script.specs.declared.verb.Verb.TheVariants.{Start, Send, Raw, Retry, Join, Leave, Move, Fail, Repair, Lose, Deliver, Tick, Sweep, Settle, Random, Expect}
+use Rattle.pl_script.specs.declared.verb.Verb.TheVariants.{Start, Send, Raw, Retry, Join, Leave, Move, Fail, Repair, Lose, Deliver, Tick, Sweep, Settle, Random, Restart, Expect}
 use Rattle.pl_script.specs.declared.verb.Expectation.{Expectation}
 use Rattle.pl_script.specs.declared.verb.Expectation.TheVariants.{Arrived, Dropped, Address, Settled}
 
@@ -47,6 +47,7 @@ form plan Tick (s ∷ []) = ticking plan s >>= λ switch. Ok (command.Tick switc
 form plan Sweep (n ∷ []) = number_of 1 10000 n >>= λ n. Ok (command.Sweep n)
 form plan Settle (n ∷ []) = number_of 1 10000 n >>= λ n. Ok (command.Settle n)
 form plan Random (x ∷ m ∷ []) = number_of 0 largest x >>= λ x. number_of 1 50000000 m >>= λ m. Ok (command.Random x m)
+form plan Restart [] = Ok command.Restart
 form plan Expect (what ∷ words) = or_refused (expectation_of what) reason.Word >>= λ what. expected plan what words
 form plan _ _ = Err reason.Count
 

@@ -32,6 +32,7 @@ fabric_verb word =
     else if bytes_eq word (codes "sweep") then Some verb.Sweep
     else if bytes_eq word (codes "settle") then Some verb.Settle
     else if bytes_eq word (codes "random") then Some verb.Random
+    else if bytes_eq word (codes "restart") then Some verb.Restart
     else if bytes_eq word (codes "expect") then Some verb.Expect
     else None
 

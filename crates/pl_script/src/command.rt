@@ -58,6 +58,8 @@ pub enum Command {
     Settle(u32),
     /// Sweeps until no queue has items, at most so many: what `settle` asks of bridges. No other line has it.
     Drain(u32),
+    /// The fabric manager begins anew.
+    Restart,
     /// Random steps: the number that they begin from, and how many.
     Random(u64, u32),
     /// The host is to have received so many frames.

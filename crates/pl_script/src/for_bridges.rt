@@ -8,7 +8,8 @@ use pl_wiring::Wiring;
 use std::alloc::Global;
 
 /// Reads a script that is to be played on learning bridges. Of a script that `read` accepts the first line
-/// with `repair`, `random`, `expect address` or `expect settled` is refused as a word that begins no line.
+/// with `repair`, `random`, `restart`, `expect address` or `expect settled` is refused as a word that begins no
+/// line.
 #[tactic(auto, unfolding(crate::specs::ForBridges::bridge_script_of))]
 pub fn read_for_bridges(alloc: Global, file: &[u8], wiring: &Wiring) -> Result<Script, ScriptError>
     ensures exact { LineGives result (bridge_script_of wiring.now file.now) }
@@ -43,6 +44,7 @@ fn for_bridges(command: Command) -> Option<Command>
     match command {
         Command::Repair(_, _)
         | Command::Random(_, _)
+        | Command::Restart
         | Command::ExpectAddress(_, _)
         | Command::ExpectSettled => None,
         Command::Settle(sweeps) => Some(Command::Drain(sweeps)),

@@ -34,6 +34,7 @@ pub(crate) fn command(wiring: &Wiring, word: &str, rest: &str) -> Result<Command
         Verb::Sweep => sweep(wiring, Words::of(rest)),
         Verb::Settle => settle(wiring, Words::of(rest)),
         Verb::Random => random(wiring, Words::of(rest)),
+        Verb::Restart => restart(wiring, Words::of(rest)),
         Verb::Expect => expect(wiring, rest),
     }
 }
@@ -180,6 +181,15 @@ fn random(wiring: &Wiring, words: Words<'_>) -> Result<Command, ScriptReason>
             let steps = number(steps, 1, 50_000_000)?;
             Ok(Command::Random(x, steps as u32))
         }
+        _ => Err(ScriptReason::Count),
+    }
+}
+
+fn restart(wiring: &Wiring, words: Words<'_>) -> Result<Command, ScriptReason>
+    ensures { result ≡ form wiring.now verb.Restart (words_in words.entry) }
+{
+    match words {
+        Words::Zero => Ok(Command::Restart),
         _ => Err(ScriptReason::Count),
     }
 }

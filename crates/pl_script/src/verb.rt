@@ -21,6 +21,7 @@ pub(crate) enum Verb {
     Sweep,
     Settle,
     Random,
+    Restart,
     Expect,
 }
 
@@ -88,6 +89,8 @@ fn fabric_verb(word: &str) -> Option<Verb>
         Some(Verb::Settle)
     } else if word == "random" {
         Some(Verb::Random)
+    } else if word == "restart" {
+        Some(Verb::Restart)
     } else if word == "expect" {
         Some(Verb::Expect)
     } else {

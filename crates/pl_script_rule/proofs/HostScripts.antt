@@ -15,7 +15,7 @@ use Rattle.pl_wiring.specs.Plan.{Plan}
 use Rattle.pl_journal.specs.declared.entry.Entry.{Entry}
 use Rattle.pl_journal.specs.declared.entry.Entry.TheVariants.{Line}
 use Rattle.pl_script.specs.declared.command.Command.{Command}
-use Rattle.pl_script.specs.declared.command.Command.TheVariants.{Deliver, Drain, ExpectAddress, ExpectArrived, ExpectDropped, ExpectSettled, Fail, Join, Leave, Lose, Move, Random, Raw, Repair, Retry, Send, Settle, Start, Sweep, Tick}
+use Rattle.pl_script.specs.declared.command.Command.TheVariants.{Deliver, Drain, ExpectAddress, ExpectArrived, ExpectDropped, ExpectSettled, Fail, Join, Leave, Lose, Move, Random, Raw, Repair, Restart, Retry, Send, Settle, Start, Sweep, Tick}
 use Rattle.pl_script.specs.declared.command.Count.{Count}
 use Rattle.pl_script.specs.declared.command.Count.TheVariants as count
 use Rattle.pl_script.specs.declared.command.Count.TheVariants.{N}
@@ -395,6 +395,7 @@ module _ (switch : SwitchRule) (manager : ManagerRule) (rule : HostRule) (n : â„
         left old new at done
     does (Settle rounds) left old new at done = settles rounds left old new at done
     does (Drain sweeps) left old new at done = drains sweeps left old new at done
+    does Restart left old new at done = happens event.Restart left old new at done
     does (Random number steps) left old new at done =
         of_quiet (Draws switch manager rule steps number) (draws_along switch manager rule AsksNothing quiet quiet_on delivered ticked steps number) left old new at done
     does (ExpectArrived h many) left old new at done = did_nothing left old new at done.0

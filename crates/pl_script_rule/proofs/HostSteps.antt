@@ -16,9 +16,10 @@ use Rattle.pl_world.specs.declared.spoken_frame.SpokenFrame.{SpokenFrame}
 use Rattle.pl_world.specs.declared.attachment.AttachmentPoint.{AttachmentPoint}
 use Rattle.pl_world.specs.Changes.{noted}
 use Rattle.pl_world.specs.LinksAndMoves.{host_moved, item_lost, link_failed, link_repaired}
+use Rattle.pl_world.specs.Restarting.{manager_restarted}
 use Rattle.pl_world.specs.WorldRule.{ComesAtSwitch, ManagerTurn, SwitchTurn, heard_item}
 use Rattle.pl_world.specs.Worlds.{WorldView}
-use Rattle.pl_world.proofs.Exports.{at_switch_left, failed_left, heard_left, lost_left, manager_acts_left, moved_left, repaired_left, switch_acts_left, SwitchesWrite, Writes}
+use Rattle.pl_world.proofs.Exports.{anew_left, at_switch_left, failed_left, heard_left, lost_left, manager_acts_left, moved_left, repaired_left, switch_acts_left, SwitchesWrite, Writes}
 use Rattle.pl_script_rule.specs.Asked.{Behaviour, behaviour_by, behaviour_in, is_asked, seen, Lives}
 
 pub either : {T : Type 0} (b : Bool) (x : T) → (if b then x else x) ≡ x
@@ -169,6 +170,9 @@ module _ (n : ℕ) (plan : Plan) (mine : Option HostView) where
 
     pub repaired : (w : WorldView) (link : Link) → KeepsShown w (link_repaired w link)
     repaired w link has = repaired_left KeepsShown ShowsNone shown_writes w link refl (λ u links more. more) has
+
+    pub restarted : (w : WorldView) → KeepsShown w (manager_restarted w)
+    restarted w has = anew_left KeepsShown ShowsNone shown_writes w refl (λ u n more. more) has
 
     pub moved : (w : WorldView) (h : ℕ) (from to : AttachmentPoint) → KeepsShown w (host_moved w h from to)
     moved w h from to has =

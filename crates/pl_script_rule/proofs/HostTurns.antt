@@ -31,10 +31,10 @@ use Rattle.pl_world.specs.OtherActs.{heard_after_tick, host_act_done, reception_
 use Rattle.pl_world.specs.WorldRule.{ComesAtHost, ComesOut, Happens, HostReceives, HostTurn, WorldStep, heard_item, played_as}
 use Rattle.pl_world.specs.Worlds.{WorldView}
 use Rattle.pl_world.proofs.Exports.{asked_by, Happened, happened}
-use Rattle.pl_world.proofs.Exports.Happened.{Asked, Departed, Failed, FromHost, Lost, Ordered, OutOfPort, OverLink, PlayedFrame, Repaired, Reported, Ticked}
+use Rattle.pl_world.proofs.Exports.Happened.{Asked, BeganAnew, Departed, Failed, FromHost, Lost, Ordered, OutOfPort, OverLink, PlayedFrame, Repaired, Reported, Ticked}
 use Rattle.pl_script_rule.specs.Asked.{Behaviour, behaviour_by, behaviour_in, given, is_asked, seen}
 use Rattle.pl_script_rule.specs.Asked.Behaviour.{Gets, Gives, PassesOver}
-use Rattle.pl_script_rule.proofs.HostSteps.{Asks, Shows, at_switch, either, failed, heard, lost, manager_shows, more_shown, moved, none_shown, notes, repaired, shown_if, switch_shows}
+use Rattle.pl_script_rule.proofs.HostSteps.{Asks, Shows, at_switch, either, failed, heard, lost, manager_shows, more_shown, moved, none_shown, notes, repaired, restarted, shown_if, switch_shows}
 
 -- what an event asks of a host
 abbrev pub asked_in : ℕ → Event → List HostInput
@@ -258,6 +258,9 @@ module _ (n : ℕ) where
           (moved n old.plan (slice_get old.hosts n) (behaviour_in n old.journal) w h.0 from to has) turn)
       by_case none (PlayedFrame h input skip is turn) = absurd (none-some (h.0, input) (sym none ∙ is))
       by_case none (Asked h input is turn) = absurd (none-some (h.0, input) (sym none ∙ is))
+      by_case none (BeganAnew is anew) =
+          quiet _ is refl
+          (subst (λ (x : WorldView). Has (behaviour_in n old.journal) x) (sym anew) (restarted n old.plan (slice_get old.hosts n) (behaviour_in n old.journal) w has))
 
     happens : (switch : SwitchRule) (manager : ManagerRule) (w : WorldView) (e : Event) (new : WorldView) → Has (behaviour_in n old.journal) w →
         Happens switch manager rule w e new → So (asked_in n e) new

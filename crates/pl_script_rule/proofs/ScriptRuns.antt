@@ -8,7 +8,7 @@ use Rattle.pl_wiring.specs.declared.label.SwitchNo.{SwitchNo}
 use Rattle.pl_journal.specs.declared.entry.Entry.{Entry}
 use Rattle.pl_journal.specs.declared.entry.Entry.TheVariants.{Line}
 use Rattle.pl_script.specs.declared.command.Command.{Command}
-use Rattle.pl_script.specs.declared.command.Command.TheVariants.{Deliver, Drain, ExpectAddress, ExpectArrived, ExpectDropped, ExpectSettled, Fail, Join, Leave, Lose, Move, Random, Raw, Repair, Retry, Send, Settle, Start, Sweep, Tick}
+use Rattle.pl_script.specs.declared.command.Command.TheVariants.{Deliver, Drain, ExpectAddress, ExpectArrived, ExpectDropped, ExpectSettled, Fail, Join, Leave, Lose, Move, Random, Raw, Repair, Restart, Retry, Send, Settle, Start, Sweep, Tick}
 use Rattle.pl_script.specs.declared.command.Count.{Count}
 use Rattle.pl_script.specs.declared.command.Count.TheVariants as count
 use Rattle.pl_script.specs.declared.command.Count.TheVariants.{N}
@@ -62,6 +62,7 @@ pub record LetsHappen (P : Event → Type 0) (Q : Command → Type 0) : Type 0 w
   pub loses : (s : SwitchNo) (port : ℕ) → P (event.Lose s port)
   pub delivers : (name : QueueName) → P (event.Deliver name)
   pub ticks : (s : SwitchNo) → P (event.Tick s)
+  pub restarts : P event.Restart
 
 -- a run of such moments
 abbrev pub RunOf : (Event → Type 0) → SwitchRule → ManagerRule → HostRule → WorldView → WorldView → Type 0
@@ -198,6 +199,7 @@ module _ (switch : SwitchRule) (manager : ManagerRule) (host : HostRule) (P : Ev
       (times_along switch manager host Run rests joined times (Sweeps switch manager host) (sweeps_along switch manager host Run rests joined delivered ticked))
   does records (Settle rounds) may = settles rounds
   does records (Drain sweeps) may = drains sweeps
+  does records Restart may = one event.Restart lets.restarts
   does records (Random number steps) may = of_world (Draws switch manager host steps number) (draws_along switch manager host Run rests joined delivered ticked steps number)
   does records (ExpectArrived h many) may = λ old end new done. unchanged old new done.0
   does records (ExpectDropped cause many) may = λ old end new done. unchanged old new done.0
@@ -245,6 +247,7 @@ all_let = record {
   loses = λ s port. tt;
   delivers = λ name. tt;
   ticks = λ s. tt;
+  restarts = tt;
 }
 
 -- lines lead from a scene to another by a run

@@ -30,6 +30,7 @@ no_repair = record {
   loses = λ s port. tt;
   delivers = λ name. tt;
   ticks = λ s. tt;
+  restarts = tt;
 }
 
 moments_repair_nothing : (moments : List Moment) → AllByRecursion (OfMoment IsNoRepair) moments → AllByRecursion RepairsNothing moments

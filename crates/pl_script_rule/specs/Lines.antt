@@ -6,7 +6,7 @@ use Rattle.pl_wiring.specs.Plan.{Plan}
 use Rattle.pl_journal.specs.declared.entry.Entry.{Entry}
 use Rattle.pl_journal.specs.declared.entry.Entry.TheVariants as entry
 use Rattle.pl_script.specs.declared.command.Command.{Command}
-use Rattle.pl_script.specs.declared.command.Command.TheVariants.{Deliver, Drain, ExpectAddress, ExpectArrived, ExpectDropped, ExpectSettled, Fail, Join, Leave, Lose, Move, Random, Raw, Repair, Retry, Send, Settle, Start, Sweep, Tick}
+use Rattle.pl_script.specs.declared.command.Command.TheVariants.{Deliver, Drain, ExpectAddress, ExpectArrived, ExpectDropped, ExpectSettled, Fail, Join, Leave, Lose, Move, Random, Raw, Repair, Restart, Retry, Send, Settle, Start, Sweep, Tick}
 use Rattle.pl_script.specs.declared.command.Count.{Count}
 use Rattle.pl_script.specs.declared.command.Count.TheVariants as count
 use Rattle.pl_script.specs.declared.command.Count.TheVariants.{N}
@@ -113,6 +113,7 @@ module _ (switch : SwitchRule) (manager : ManagerRule) (host : HostRule) where
   Does records (Sweep times) = OfWorld (Times times (Sweeps switch manager host))
   Does records (Settle rounds) = SettlesAsAsked rounds
   Does records (Drain sweeps) = DrainsAsAsked sweeps
+  Does records Restart = Happen (event.Restart ∷ [])
   Does records (Random number steps) = OfWorld (Draws switch manager host steps number)
   Does records (ExpectArrived h many) = λ old. Expects (arrivals old.world.journal h ≡ many) old
   Does records (ExpectDropped cause many) = λ old. Expects (endings old.world.journal cause ≡ many) old

@@ -7,6 +7,7 @@ use Rattle.pl_frame.specs.declared.address.SwitchId.{SwitchId}
 use Rattle.pl_layouts.specs.declared.place.Place.{Place}
 use Rattle.pl_wiring.specs.declared.link.Peer.{Peer}
 use Rattle.pl_wiring.specs.declared.link.Peer.TheVariants.{HostPort, Switch}
+use Rattle.pl_wiring.specs.Labels.{switch_count}
 use Rattle.pl_wiring.specs.LiveLinks.{is_live_at}
 use Rattle.pl_wiring.specs.Peers.{peer_of}
 use Rattle.pl_node.specs.declared.messages.ToManager.{ToManager}
@@ -19,7 +20,7 @@ use Rattle.pl_node.specs.PortRecords.{is_usable, port_of}
 use Rattle.pl_node.specs.SwitchFacts.{IsAnnounced, group_of_part, part_of}
 use Rattle.pl_node.specs.SwitchViews.{SwitchView}
 use Rattle.pl_node.specs.Trees.{tree_part}
-use Rattle.pl_fabric.specs.Settled.{HasPart, IsSettled, IsSettledEnd, IsSettledSwitch, IsSettledTowards, announced_at, group_limit, would_change}
+use Rattle.pl_fabric.specs.Settled.{HasPart, IsSettled, IsSettledEnd, IsSettledSwitch, IsSettledTowards, announced_at, group_limit, has_reports, would_change}
 use Rattle.pl_fabric.proofs.Exports.{any_below}
 use Rattle.pl_queues.specs.Queues.{has_items, items_at}
 use Rattle.pl_queues.proofs.Exports.{no_items}
@@ -137,11 +138,13 @@ switch_is w s v is =
     let list = not (has_items (avoid_list w.manager.told v.id)) in
     let of_groups = not (list_any (has_part w.manager v) (groups w.manager.members)) in
     let parts = not (has_items v.parts) in
-    let one = and_parts ports (place && (avoid && (list && (of_groups && parts)))) is in
-    let two = and_parts place (avoid && (list && (of_groups && parts))) one.1 in
-    let three = and_parts avoid (list && (of_groups && parts)) two.1 in
-    let four = and_parts list (of_groups && parts) three.1 in
-    let five = and_parts of_groups parts four.1 in
+    let epoch = v.epoch == w.manager.epoch in
+    let one = and_parts ports (place && (avoid && (list && (of_groups && (parts && epoch))))) is in
+    let two = and_parts place (avoid && (list && (of_groups && (parts && epoch)))) one.1 in
+    let three = and_parts avoid (list && (of_groups && (parts && epoch))) two.1 in
+    let four = and_parts list (of_groups && (parts && epoch)) three.1 in
+    let five = and_parts of_groups (parts && epoch) four.1 in
+    let six = and_parts parts epoch five.1 in
     record {
       links = λ port less. towards_is w s v port (peer_of w.plan s port) (elim (cases_Bool (is_unsettled_port w s v port)) [
         | inl bad ↦ absurd (true≢false (sym (any_below (is_unsettled_port w s v) w.plan.k port less bad) ∙ not-true _ one.0))
@@ -150,7 +153,8 @@ switch_is w s v is =
       place = places_are (place_of w.manager.told v.id) v.place two.0;
       avoids = no_items v.avoid (not-true _ three.0) ∙ sym (no_items (avoid_list w.manager.told v.id) (not-true _ four.0));
       groups = λ n group low found. has_it group (none_there (has_part w.manager v) (groups w.manager.members) (not-true _ five.0) n group found);
-      parts = λ n group low found. absurd (none_in n group (no_items v.parts (not-true _ five.1)) found);
+      parts = λ n group low found. absurd (none_in n group (no_items v.parts (not-true _ six.0)) found);
+      epoch = eqb-true v.epoch w.manager.epoch six.1;
     }
   where
     settled : (b : Bool) → not b ≡ false → b ≡ true
@@ -186,10 +190,13 @@ settled_is w is =
     let hosts = not (list_any (list_any is_control_item) w.from_hosts) in
     let up = not (list_any has_items w.to_manager) in
     let down = not (list_any has_items w.from_manager) in
-    let one = and_parts out (hosts && (up && (down && are_settled w 0 w.switches))) is in
-    let two = and_parts hosts (up && (down && are_settled w 0 w.switches)) one.1 in
-    let three = and_parts up (down && are_settled w 0 w.switches) two.1 in
-    let four = and_parts down (are_settled w 0 w.switches) three.1 in
+    let reports = has_reports w.manager (switch_count w.plan.k) in
+    let settled = are_settled w 0 w.switches in
+    let one = and_parts out (hosts && (up && (down && (settled && reports)))) is in
+    let two = and_parts hosts (up && (down && (settled && reports))) one.1 in
+    let three = and_parts up (down && (settled && reports)) two.1 in
+    let four = and_parts down (settled && reports) three.1 in
+    let five = and_parts settled reports four.1 in
     record {
       queues = record {
         out_of_ports = λ s port v frame found less there.
@@ -200,5 +207,6 @@ settled_is w is =
         from_manager = λ s says there. absurd (nothing_in (items_at w.from_manager s) says (queue_empty w.from_manager (not-true _ four.0) s) there);
       };
       switches = λ s v found. let same : 0 + s ≡ s = omega arith in
-          subst (λ (n : ℕ). IsSettledSwitch w n v) same (switches_are w 0 w.switches four.1 s v found);
+          subst (λ (n : ℕ). IsSettledSwitch w n v) same (switches_are w 0 w.switches five.0 s v found);
+      reports = five.1;
     }

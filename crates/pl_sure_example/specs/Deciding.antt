@@ -3,6 +3,7 @@ use Rattle.std.specs.Prelude.{ℕ, ◌+◌, ◌==◌, ◌&&◌, not, Bool, true,
 use Rattle.std.specs.List.{list_any, range_with_len}
 use Rattle.pl_frame.specs.declared.address.SwitchId.{SwitchId}
 use Rattle.pl_layouts.specs.declared.place.Place.{Place}
+use Rattle.pl_wiring.specs.Labels.{switch_count}
 use Rattle.pl_wiring.specs.declared.link.Peer.{Peer}
 use Rattle.pl_wiring.specs.declared.link.Peer.TheVariants.{HostPort, Switch}
 use Rattle.pl_wiring.specs.LiveLinks.{is_live_at}
@@ -15,7 +16,7 @@ use Rattle.pl_node.specs.PortRecords.{is_usable, port_of}
 use Rattle.pl_node.specs.SwitchFacts.{part_of}
 use Rattle.pl_node.specs.SwitchViews.{SwitchView}
 use Rattle.pl_node.specs.Trees.{tree_part}
-use Rattle.pl_fabric.specs.Settled.{announced_at, would_change}
+use Rattle.pl_fabric.specs.Settled.{announced_at, has_reports, would_change}
 use Rattle.pl_queues.specs.Queues.{has_items}
 use Rattle.pl_world.specs.declared.item.Item.{Item}
 use Rattle.pl_world.specs.declared.item.Item.TheVariants.{Control, Data}
@@ -71,7 +72,7 @@ abbrev pub is_settled_switch : WorldView → ℕ → SwitchView → Bool
 is_settled_switch w s v =
     not (list_any (is_unsettled_port w s v) (range_with_len 0 w.plan.k)) && (same_place (place_of w.manager.told v.id) v.place
     && (not (has_items v.avoid) && (not (has_items (avoid_list w.manager.told v.id))
-    && (not (list_any (has_part w.manager v) (groups w.manager.members)) && not (has_items v.parts)))))
+    && (not (list_any (has_part w.manager v) (groups w.manager.members)) && (not (has_items v.parts) && (v.epoch == w.manager.epoch))))))
 
 abbrev pub are_settled : WorldView → ℕ → List SwitchView → Bool
 are_settled w s [] = true
@@ -84,4 +85,5 @@ is_control_item (Data id frame) = false
 abbrev pub is_settled_world : WorldView → Bool
 is_settled_world w =
     not (list_any (list_any is_control_item) w.out) && (not (list_any (list_any is_control_item) w.from_hosts)
-    && (not (list_any has_items w.to_manager) && (not (list_any has_items w.from_manager) && are_settled w 0 w.switches)))
+    && (not (list_any has_items w.to_manager) && (not (list_any has_items w.from_manager)
+    && (are_settled w 0 w.switches && has_reports w.manager (switch_count w.plan.k)))))

@@ -32,6 +32,7 @@ fn in_fabric(wiring: &Wiring, verb: &str, rest: &str) -> Option<Event> {
         "repair" => repair(wiring, rest),
         "lose" => lose(wiring, rest),
         "deliver" => deliver(wiring, rest),
+        "restart" => Some(Event::Restart),
         _ => None,
     }
 }

@@ -27,7 +27,7 @@ use Rattle.pl_watch.specs.declared.look.Look.{Look}
 use Rattle.pl_watch.specs.declared.row.Verb.TheVariants as verb
 use Rattle.pl_watch.specs.declared.told.Told.{Told}
 use Rattle.pl_watch.specs.Acts.{act_line, heard_lines, manager_act_line}
-use Rattle.pl_watch.specs.Events.{node_of}
+use Rattle.pl_watch.specs.Events.{manager_of, node_of}
 use Rattle.pl_watch.specs.Logs.{LogLine, event_lines, log_text, lost_lines, manager_lines, news_at, present_line, said_in, shown_below, step_lines, switch_lines, unheard_lines}
 use Rattle.pl_watch.specs.Looks.{is_within, shows}
 use Rattle.pl_watch.specs.Messages.{told_line}
@@ -56,6 +56,7 @@ not_told w (event.Play h frame original raw) c is = refl
 not_told w (event.Retry h) c is = refl
 not_told w (event.Join h group) c is = refl
 not_told w (event.Leave h group) c is = refl
+not_told w event.Restart c is = refl
 
 -- and where the manager does, nothing is lost
 not_lost : (w : WorldView) (e : Event) (t : ℕ × ToManager) → telling w e ≡ Some t → lost_lines w e ≡ []
@@ -73,6 +74,7 @@ not_lost w (event.Play h frame original raw) t is = refl
 not_lost w (event.Retry h) t is = refl
 not_lost w (event.Join h group) t is = refl
 not_lost w (event.Leave h group) t is = refl
+not_lost w event.Restart t is = refl
 
 module _ (switch : SwitchRule) (manager : ManagerRule) (host : HostRule) where
   -- what was printed of a step, and what is kept behind it, go on with a log
@@ -195,8 +197,8 @@ module _ (switch : SwitchRule) (manager : ManagerRule) (host : HostRule) where
 
     -- ---- nothing was heard
     module _ (untold : telling w e ≡ None) (unheard : coming w e ≡ None) (stays : mid ≡ record kept { page = mid.page })
-        (keeps : new ≡ record mid { page = new.page }) (took : Tells mid.page new.page told last (lost_lines w e)) where
-      rests : AreSame w v
+        (keeps : new ≡ record mid { page = new.page; manager = manager_of w e }) (took : Tells mid.page new.page told last (lost_lines w e)) where
+      rests : AreSame (record w { manager = manager_of w e }) v
       rests = step_unheard switch manager host w e v step unheard untold
 
       rest_lines : step_lines w e v (turn_of switch manager host w e v step) (said_in switch manager host w e v step) ≡ lost_lines w e
@@ -208,6 +210,6 @@ module _ (switch : SwitchRule) (manager : ManagerRule) (host : HostRule) where
       nothing_told =
           goes_on (lost_lines w e) rest_lines took
           (keeps
-          ∙ ap (λ (k : Kept). record k { page = new.page }) stays
-          ∙ ap (λ (xs : List SwitchView). record kept { page = new.page; switches = xs }) (seen.same_switches ∙ sym rests.switches)
-          ∙ ap (λ (m : ManagerView). record kept { page = new.page; switches = v.switches; manager = m }) (seen.same_manager ∙ sym rests.manager))
+          ∙ ap (λ (k : Kept). record k { page = new.page; manager = manager_of w e }) stays
+          ∙ ap (λ (xs : List SwitchView). record kept { page = new.page; switches = xs; manager = manager_of w e }) (seen.same_switches ∙ sym rests.switches)
+          ∙ ap (λ (m : ManagerView). record kept { page = new.page; switches = v.switches; manager = m }) (sym rests.manager))

@@ -58,7 +58,15 @@ grown_turns = record {
 
 grown_moves : MovesAndLinks Grows Any
 grown_moves =
-    record { moved = λ h s port. tt; down = λ a b. tt; up = λ a b. tt; attachments = λ w h to. still w _ refl refl; links = λ w links. still w _ refl refl }
+    record {
+      moved = λ h s port. tt;
+      down = λ a b. tt;
+      up = λ a b. tt;
+      attachments = λ w h to. still w _ refl refl;
+      links = λ w links. still w _ refl refl;
+      restarted = λ n. tt;
+      anew = λ w n. still w _ refl refl;
+    }
 
 module _ (switch : SwitchRule) (manager : ManagerRule) (host : HostRule) (old : WorldView) (happens : Event) (new : WorldView)
     (step : WorldStep switch manager host old happens new) where

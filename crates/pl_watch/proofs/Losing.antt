@@ -32,6 +32,7 @@ none_leaves w (event.Play h frame original raw) none = refl
 none_leaves w (event.Retry h) none = refl
 none_leaves w (event.Join h group) none = refl
 none_leaves w (event.Leave h group) none = refl
+none_leaves w event.Restart none = refl
 none_leaves w (event.Lose s port) none = absurd (cc)
 none_leaves w (event.Deliver (queue.Port s port)) none = absurd (cc)
 
@@ -50,6 +51,7 @@ leaves w (event.Play h frame original raw) at by is = absurd (cc)
 leaves w (event.Retry h) at by is = absurd (cc)
 leaves w (event.Join h group) at by is = absurd (cc)
 leaves w (event.Leave h group) at by is = absurd (cc)
+leaves w event.Restart at by is = absurd (cc)
 leaves w (event.Lose x y) at by is =
     let same : (x, y) ≡ (at, by) = same_Some (x, y) (at, by) is in
     inl (ap (λ (p : SwitchNo × ℕ). event.Lose p.0 p.1) same)

@@ -51,7 +51,13 @@ use Rattle.pl_world.specs.SwitchActs.{DuringActs, act_done, acts_done, begins, e
 use Rattle.pl_world.specs.WorldRule.{ComesAtHost, ComesAtSwitch, ComesIn, ComesOut, ComesOver, DeliversFromHost, DeliversFromManager, DeliversOut, DeliversToManager, HostMoves, HostTurn, LinkFails, LinkIsRepaired, Loses, SwitchTurn, WorldStep, heard_item, played_as}
 use Rattle.pl_world.specs.Worlds.{WorldView}
 use Rattle.pl_schedule.specs.Coming.{telling}
+use Rattle.pl_watch.specs.Events.{manager_of}
 use Rattle.pl_watch.specs.Logs.{said_in, said_to}
+
+-- where it does not begin anew, it is to know what it knows
+pub manager_stays : (w : WorldView) (e : Event) → (e ≡ event.Restart → ⊥) → manager_of w e ≡ w.manager
+manager_stays w event.Restart other = absurd (other refl)
+manager_stays w e other = refl
 
 -- the switches and the manager are as they were
 pub record AreSame (w v : WorldView) : Type 0 where
@@ -340,11 +346,11 @@ module _ (switch : SwitchRule) (manager : ManagerRule) (host : HostRule) where
   -- ---- nothing is heard
 
   -- the step is counted before it is made
-  counted : (old new : WorldView) → AreSame (record old { steps = old.steps + 1 }) new → AreSame old new
+  counted : (old new : WorldView) → AreSame (record old { steps = old.steps + 1 }) new → AreSame (record old { manager = old.manager }) new
   counted old new a = record { switches = a.switches; manager = a.manager }
 
   pub step_unheard : (old : WorldView) (happens : Event) (new : WorldView) → WorldStep switch manager host old happens new → coming old happens ≡ None →
-      telling old happens ≡ None → AreSame old new
+      telling old happens ≡ None → AreSame (record old { manager = manager_of old happens }) new
   step_unheard old (event.Deliver (queue.FromHost h)) new step none untold =
       counted old new (unheard_from_host (record old { steps = old.steps + 1 }) h.0 (items_at old.from_hosts h.0) new step none)
   step_unheard old (event.Deliver (queue.Port s port)) new step none untold =
@@ -367,3 +373,4 @@ module _ (switch : SwitchRule) (manager : ManagerRule) (host : HostRule) where
   step_unheard old (event.Retry h) new step none untold = counted old new (host_turn_same host (record old { steps = old.steps + 1 }) h.0 Retries Nothing new step)
   step_unheard old (event.Join h group) new step none untold = counted old new (host_turn_same host (record old { steps = old.steps + 1 }) h.0 (Joins group) Nothing new step)
   step_unheard old (event.Leave h group) new step none untold = counted old new (host_turn_same host (record old { steps = old.steps + 1 }) h.0 (Leaves group) Nothing new step)
+  step_unheard old event.Restart new step none untold = record { switches = ap (λ (x : WorldView). x.switches) step; manager = ap (λ (x : WorldView). x.manager) step }

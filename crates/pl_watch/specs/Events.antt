@@ -1,8 +1,9 @@
 -- The line of an event: as a script would say it, with the port beside each end of a link.
-use Rattle.std.specs.Prelude.{ℕ, if◌then◌else◌, List, [], ◌∷◌, codes, decimal, Option, Some, None, slice_get}
+use Rattle.std.specs.Prelude.{ℕ, ◌+◌, if◌then◌else◌, List, [], ◌∷◌, codes, decimal, Option, Some, None, slice_get}
 use Rattle.std.specs.Option.{option_map, option_map_or}
 use Rattle.pl_frame.specs.Address.{ip4_text}
 use Rattle.pl_journal.specs.Text.{host_text, switch_text}
+use Rattle.pl_node.specs.ManagerViews.{ManagerView, restarted_manager}
 use Rattle.pl_wiring.specs.declared.label.SwitchNo.{SwitchNo}
 use Rattle.pl_wiring.specs.declared.link.Peer.{Peer}
 use Rattle.pl_wiring.specs.declared.link.Peer.TheVariants.{HostPort, Switch}
@@ -42,6 +43,12 @@ event_words w (event.Play h frame original raw) = (if raw then codes "raw" else 
 event_words w (event.Retry h) = codes "retry" ∷ host_text w.plan h.0 ∷ []
 event_words w (event.Join h group) = codes "join" ∷ host_text w.plan h.0 ∷ ip4_text group ∷ []
 event_words w (event.Leave h group) = codes "leave" ∷ host_text w.plan h.0 ∷ ip4_text group ∷ []
+event_words w event.Restart = codes "restart" ∷ []
+
+-- what the manager is to know where no switch tells it anything
+abbrev pub manager_of : WorldView → Event → ManagerView
+manager_of w event.Restart = restarted_manager w.manager.k (w.manager.epoch + 1)
+manager_of w happens = w.manager
 
 -- the port by which something leaves in an event, to be lost or to come at the other end
 abbrev pub leaving_from : QueueName → Option (SwitchNo × ℕ)

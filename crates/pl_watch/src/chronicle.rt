@@ -12,7 +12,8 @@ ghost use Rattle.pl_watch.specs.Marks.{a_mark_is_seen};
 ghost use Rattle.pl_world.specs.declared.limits.Limits.{Limits};
 ghost use Rattle.pl_world.specs.Booting.{booted};
 ghost use Rattle.pl_world.specs.Changes.{out_of};
-ghost use Rattle.pl_watch.specs.Events.{leaving, leaving_from, node_of};
+ghost use Rattle.pl_watch.specs.Events.{leaving, leaving_from, manager_of, node_of};
+ghost use Rattle.pl_node.specs.ManagerViews.{restarted_manager};
 ghost use Rattle.pl_world.specs.Ready.{CanStep};
 ghost use Rattle.pl_world.specs.Refusals.{refusal, refusal_of_event};
 ghost use Rattle.pl_world.specs.WorldRule.{WorldStep};
@@ -251,7 +252,28 @@ impl<S: DecidedSwitch, M: DecidedManager, D: Shelf + Drop> Chronicle<S, M, D> {
             return self.tell_manager(world, &mut told, s, says);
         }
         self.tell_lost(world, &mut told, event);
-        Ok(())
+        self.follow_restart(world, event)
+    }
+
+    // The second manager begins anew where the first one is going to.
+    fn follow_restart<H: HostLogic>(
+        &mut self,
+        world: &World<S, M, H>,
+        event: &Event,
+    ) -> Result<(), Memory>
+        requires { self.old.manager ≡ world.now.manager }
+        ensures { OnOk result (self.new ≡ record self.old { manager = manager_of world.now event.now }) }
+    {
+        match event {
+            Event::Restart => self.restart_manager(world.next_epoch()?),
+            _ => Ok(()),
+        }
+    }
+
+    fn restart_manager(&mut self, epoch: u32) -> Result<(), Memory>
+        ensures { OnOk result (self.new ≡ record self.old { manager = restarted_manager self.old.manager.k epoch }) }
+    {
+        self.shadows.manager.restart(self.alloc, epoch)
     }
 }
 

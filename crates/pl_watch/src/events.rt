@@ -40,6 +40,7 @@ pub(crate) fn event_words<'a, S: SwitchLogic, M: ManagerLogic, H: HostLogic>(
         Event::Retry(h) => host_words(world, "retry", *h),
         Event::Join(h, group) => group_words(world, "join", *h, Word::Ip(*group)),
         Event::Leave(h, group) => group_words(world, "leave", *h, Word::Ip(*group)),
+        Event::Restart => words("restart", None, None, None, None),
     }
 }
 

@@ -18,7 +18,7 @@ use Rattle.pl_world.specs.WorldRule.{ComesOut, Happens, HostTurn, ManagerTurn, S
 use Rattle.pl_world.specs.Worlds.{WorldView}
 use Rattle.pl_world.proofs.Leaving.{SwitchesWrite, Takes, Writes, host_acts_left, manager_acts_left, switch_acts_left}
 use Rattle.pl_world.proofs.Turning.{Left, Turned, Turns, event_left_but, out_left, turned}
-use Rattle.pl_world.proofs.Turning.Left.{LinkFails, Moves, Repairs, Stays}
+use Rattle.pl_world.proofs.Turning.Left.{LinkFails, Moves, Repairs, Restarts, Stays}
 
 -- any entry may be written
 abbrev pub Any : Entry → Type 0
@@ -198,6 +198,7 @@ module _ (switch : SwitchRule) (manager : ManagerRule) (host : HostRule) (w : Wo
   of_plan (Moves h s port from is at r) = ap (λ (x : WorldView). record new { plan = x.plan; limits = x.limits; steps = x.steps }) r
   of_plan (LinkFails a b link is found fails) = ap (λ (x : WorldView). record new { plan = x.plan; limits = x.limits; steps = x.steps }) fails
   of_plan (Repairs a b link is found repairs) = ap (λ (x : WorldView). record new { plan = x.plan; limits = x.limits; steps = x.steps }) repairs
+  of_plan (Restarts is restarts) = ap (λ (x : WorldView). record new { plan = x.plan; limits = x.limits; steps = x.steps }) restarts
 
   pub by_event : ByEvents w new
   by_event = of_plan by_event_but
@@ -209,6 +210,8 @@ module _ (switch : SwitchRule) (manager : ManagerRule) (host : HostRule) (w : Wo
       NotMoved (ap (λ (x : WorldView). record new { plan = x.plan; attachments = x.attachments; limits = x.limits; steps = x.steps }) fails)
   of_stands (Repairs a b link is found repairs) =
       NotMoved (ap (λ (x : WorldView). record new { plan = x.plan; attachments = x.attachments; limits = x.limits; steps = x.steps }) repairs)
+  of_stands (Restarts is restarts) =
+      NotMoved (ap (λ (x : WorldView). record new { plan = x.plan; attachments = x.attachments; limits = x.limits; steps = x.steps }) restarts)
 
   pub or_moved : OrMoved w e new
   or_moved = of_stands by_event_but
@@ -218,6 +221,9 @@ module _ (switch : SwitchRule) (manager : ManagerRule) (host : HostRule) (old : 
   -- a step keeps the wiring
   pub step_plan : new.plan ≡ old.plan
   step_plan = ap (λ (w : WorldView). w.plan) (by_event switch manager host (record old { steps = old.steps + 1 }) e new step)
+
+  pub step_limits : new.limits ≡ old.limits
+  step_limits = ap (λ (w : WorldView). w.limits) (by_event switch manager host (record old { steps = old.steps + 1 }) e new step)
 
   -- and is one more
   pub one_more_step : new.steps ≡ old.steps + 1

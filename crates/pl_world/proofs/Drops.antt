@@ -33,7 +33,7 @@ use Rattle.pl_journal.specs.declared.cause.Cause.{Cause}
 use Rattle.pl_journal.specs.declared.cause.Cause.TheVariants.{HostGone, LinkDown, Lost, NoMember}
 use Rattle.pl_journal.specs.declared.cause.Skip.{Skip}
 use Rattle.pl_journal.specs.declared.entry.Entry.{Entry}
-use Rattle.pl_journal.specs.declared.entry.Entry.TheVariants.{Arrived, LinkDown as WentDown, LinkUp, Moved, Registered, Sent, Skipped}
+use Rattle.pl_journal.specs.declared.entry.Entry.TheVariants.{Arrived, LinkDown as WentDown, LinkUp, Moved, Registered, Restarted, Sent, Skipped}
 use Rattle.pl_queues.specs.Queues.{items_at}
 use Rattle.pl_world.specs.declared.event.Event.{Event}
 use Rattle.pl_world.specs.declared.event.Event.TheVariants as event
@@ -47,6 +47,7 @@ use Rattle.pl_world.specs.Changes.{ends_of, host_no, out_of, receiver, said_to}
 use Rattle.pl_world.specs.Drops.{Coming, Turn, at_port, coming, coming_at, coming_from_manager, coming_in, coming_over, dropped, dropped_at, dropped_from, drops_in, made, made_at, made_in, number_in, on_link, turn_at_host, turn_at_switch, turn_from_host, turn_from_manager, turn_in, turn_of, turn_out, turn_over, written}
 use Rattle.pl_world.specs.Drops.Turn.{OfHost, OfSwitch, Other}
 use Rattle.pl_world.specs.LinksAndMoves.{joins, link_between}
+use Rattle.pl_world.specs.Restarting.{manager_restarted}
 use Rattle.pl_world.specs.OtherActs.{host_act_done, manager_act_done, reception_noted, skip_noted}
 use Rattle.pl_world.specs.WorldRule.{ComesAtHost, ComesAtSwitch, ComesIn, ComesOver, DeliversFromHost, DeliversFromManager, DeliversOut, DeliversToManager, LinkFails, HostMoves, HostTurn, HostPlays, LinkIsRepaired, Loses, SwitchTurn, WorldStep, heard_item}
 use Rattle.pl_world.specs.Worlds.{WorldView}
@@ -150,6 +151,9 @@ module _ (w : WorldView) (n : ℕ) where
   repaired : (link : Option Link) (new : WorldView) → LinkIsRepaired (record w { steps = n }) link new → Adds w.journal new.journal [] []
   repaired None new is = absurd is
   repaired (Some link) new is = subst (λ (x : WorldView). Adds w.journal x.journal [] []) (sym is) (adds_quiet w.journal (LinkUp link.lower link.upper) refl refl)
+
+  anew : (new : WorldView) → new ≡ manager_restarted (record w { steps = n }) → Adds w.journal new.journal [] []
+  anew new is = subst (λ (x : WorldView). Adds w.journal x.journal [] []) (sym is) (adds_quiet w.journal (Restarted (w.manager.epoch + 1)) refl refl)
 
   told : (manager : ManagerRule) (s : ℕ) (items : List ToManager) (new : WorldView) → DeliversToManager manager (record w { steps = n }) s items new → Adds w.journal new.journal [] []
   told manager s [] new moves = absurd moves
@@ -276,6 +280,7 @@ module _ (switch : SwitchRule) (manager : ManagerRule) (host : HostRule) where
   adds old (event.Retry h) new step plan = adds_turn host _ h.0 _ _ new step
   adds old (event.Join h group) new step plan = adds_turn host _ h.0 _ _ new step
   adds old (event.Leave h group) new step plan = adds_turn host _ h.0 _ _ new step
+  adds old event.Restart new step plan = anew old (old.steps + 1) new step
 
   pub step_drops : (old : WorldView) (happens : Event) (new : WorldView) (step : WorldStep switch manager host old happens new) → IsPlan old.plan →
       (drops_in (written old new) ≡ dropped old happens (turn_of switch manager host old happens new step))

@@ -26,6 +26,7 @@ use Rattle.pl_world.specs.declared.attachment.AttachmentPoint.{AttachmentPoint}
 use Rattle.pl_world.specs.Changes.{out_of}
 use Rattle.pl_world.specs.LinksAndMoves.{host_moved, item_lost, link_between, link_failed, link_repaired}
 use Rattle.pl_world.specs.OtherActs.{heard_after_tick, skip_noted}
+use Rattle.pl_world.specs.Restarting.{manager_restarted}
 use Rattle.pl_world.specs.WorldRule.{ComesAtSwitch, ComesIn, ComesOut, ComesOver, DeliversFromHost, DeliversFromManager, DeliversOut, DeliversToManager, LinkFails, HostMoves, Happens, HostTurn, LinkIsRepaired, Loses, ManagerTurn, SwitchTurn, heard_item, played_as}
 use Rattle.pl_world.specs.Worlds.{WorldView}
 
@@ -70,6 +71,7 @@ pub data Happened (switch : SwitchRule) (manager : ManagerRule) (host : HostRule
   PlayedFrame : (h : HostNo) (input : HostInput) (skip : Option Skip) → asked_by e ≡ Some (h.0, input) →
       HostTurn host (skip_noted w h.0 skip) h.0 input (Played skip) new → Happened switch manager host w e new
   Asked : (h : HostNo) (input : HostInput) → asked_by e ≡ Some (h.0, input) → HostTurn host w h.0 input Nothing new → Happened switch manager host w e new
+  BeganAnew : e ≡ event.Restart → new ≡ manager_restarted w → Happened switch manager host w e new
 
 module _ (switch : SwitchRule) (manager : ManagerRule) (host : HostRule) (w : WorldView) (e : Event) (new : WorldView) where
   abbrev This : Type 0
@@ -143,3 +145,4 @@ happened switch manager host w (event.Play h frame original raw) new does = Play
 happened switch manager host w (event.Retry h) new does = Asked h Retries refl does
 happened switch manager host w (event.Join h group) new does = Asked h (Joins group) refl does
 happened switch manager host w (event.Leave h group) new does = Asked h (Leaves group) refl does
+happened switch manager host w event.Restart new does = BeganAnew refl does

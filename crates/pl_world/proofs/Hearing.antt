@@ -1,5 +1,5 @@
 -- The manager can hear each switch of the wiring at each moment of a run.
-use Rattle.std.proofs.Common.{◌≡◌, ℕ, zero, suc, ◌+◌, ◌*◌, ◌/◌, ◌<◌, ◌≤◌, List, [], ◌∷◌, length, Contains, IsTrue, Less, Greater, Some, slice_get, refl, sym, ◌∙◌, ap, subst, arith, inl, inr, mul_assoc, mul_comm}
+use Rattle.std.proofs.Common.{◌≡◌, ℕ, zero, suc, ◌+◌, ◌*◌, ◌/◌, ◌<◌, ◌≤◌, true, false, List, [], ◌∷◌, length, Contains, IsTrue, Less, Greater, Some, slice_get, refl, sym, ◌∙◌, ap, subst, arith, inl, inr, mul_assoc, mul_comm}
 use Rattle.std.specs.List.{list_any}
 use Rattle.std.specs.List.Sorted.{IsStrictlySortedBy}
 use Rattle.std.specs.Ordering.{ordering_reverse}
@@ -12,7 +12,7 @@ use Rattle.pl_layouts.proofs.Exports.{switch_itself}
 use Rattle.pl_node.specs.ManagerFacts.{CanHear, heard}
 use Rattle.pl_node.specs.ManagerFacts as facts
 use Rattle.pl_node.specs.ManagerDuties.{IsGrown}
-use Rattle.pl_node.specs.ManagerViews.{ManagerView, id_cmp, in_order, is_heard, numbers_before, speakers}
+use Rattle.pl_node.specs.ManagerViews.{ManagerView, id_cmp, in_order, is_heard, numbers_before, restarted_manager, speakers}
 use Rattle.pl_node.proofs.Exports.{among_of_Contains, among_ordered, any_among, holds_of, id_total, IsAmong, rising_in_order}
 use Rattle.pl_world.specs.Hearing.{HeardWithin}
 
@@ -122,3 +122,7 @@ heard_no_more plan view steps within = record {
   heard = within.heard;
   addresses = let some = within.addresses in omega (arith, some);
 }
+
+-- a manager that begins anew has heard nobody
+pub heard_anew : (plan : Plan) (view : ManagerView) (steps epoch : ℕ) → HeardWithin plan view steps → HeardWithin plan (restarted_manager view.k epoch) (steps + 1)
+heard_anew plan view steps epoch within = record { same_k = within.same_k; heard = λ t is. absurd (let none : false ≡ true = is in cc); addresses = omega arith }

@@ -1,10 +1,10 @@
--- No event but a message to the manager changes what the manager knows.
+-- No event changes what the manager knows but a message to it, and that it begins anew.
 use Rattle.std.proofs.Common.{◌≡◌, ℕ, ◌+◌, ◌≤◌, sym, ◌∙◌, ap, subst}
 use Rattle.pl_wiring.specs.Plan.{Plan}
 use Rattle.pl_node.specs.declared.messages.ToManager.{ToManager}
 use Rattle.pl_node.specs.HostInputs.{HostRule}
 use Rattle.pl_node.specs.ManagerDuties.{AnswersDuly, ManagerRule}
-use Rattle.pl_node.specs.ManagerViews.{ManagerView}
+use Rattle.pl_node.specs.ManagerViews.{ManagerView, restarted_manager}
 use Rattle.pl_node.specs.SwitchInputs.{SwitchRule}
 use Rattle.pl_world.specs.declared.event.Event.{Event}
 use Rattle.pl_world.specs.declared.limits.Limits.{Limits}
@@ -12,9 +12,9 @@ use Rattle.pl_world.specs.Hearing.{HeardWithin, IsWithinHearing}
 use Rattle.pl_world.specs.WorldRule.{Happens, ManagerTurn, WorldStep}
 use Rattle.pl_world.specs.Worlds.{WorldView}
 use Rattle.pl_world.proofs.Beside.{ByActs, by_event, by_host, by_manager_acts, by_switch_acts, turned_by}
-use Rattle.pl_world.proofs.Hearing.{heard_no_more, heard_one_more}
+use Rattle.pl_world.proofs.Hearing.{heard_anew, heard_no_more, heard_one_more}
 use Rattle.pl_world.proofs.Turning.{Turned}
-use Rattle.pl_world.proofs.Turning.Turned.{NoTurn, OfFailed, OfHost, OfManager, OfMoved, OfRepaired, OfSwitch}
+use Rattle.pl_world.proofs.Turning.Turned.{NoTurn, OfFailed, OfHost, OfManager, OfMoved, OfRepaired, OfRestarted, OfSwitch}
 
 record Known : Type 0 where
   plan : Plan
@@ -40,6 +40,10 @@ module _ (n : ℕ) (switch : SwitchRule) (manager : ManagerRule) (host : HostRul
       let still : HeardWithin mid.plan mid.manager n = subst (λ (k : Known). HeardWithin k.plan k.manager n) (sym before) within in
       subst After (sym same) (heard_one_more mid.plan mid.manager turn.after n s turn.id turn.found grown still)
 
+  anew : knows new ≡ record { plan = w.plan; manager = restarted_manager w.manager.k (w.manager.epoch + 1) } → After (knows new)
+  unfolding After
+  anew same = subst After (sym same) (heard_anew w.plan w.manager n (w.manager.epoch + 1) within)
+
   by_turn : Turned ByActs switch manager host w e new → After (knows new)
   by_turn (NoTurn r) = no_more (ap knows r)
   by_turn (OfSwitch mid s input speech r turn) = no_more (ap knows (by_switch_acts switch mid s input speech new turn) ∙ ap knows r)
@@ -48,6 +52,7 @@ module _ (n : ℕ) (switch : SwitchRule) (manager : ManagerRule) (host : HostRul
   by_turn (OfMoved h s port from is at turn) = no_more (ap knows (by_host host _ h.0 _ _ new turn))
   by_turn (OfFailed a b link is found fails) = no_more (ap knows fails)
   by_turn (OfRepaired a b link is found repairs) = no_more (ap knows repairs)
+  by_turn (OfRestarted is restarts) = anew (ap knows restarts)
 
   happens_within : Happens switch manager host w e new → HeardWithin new.plan new.manager (n + 1)
   unfolding After

@@ -14,7 +14,7 @@ use Rattle.pl_wiring.specs.LiveLinks.{LivePorts}
 use Rattle.pl_journal.specs.declared.cause.Cause.{Cause}
 use Rattle.pl_journal.specs.declared.cause.Cause.TheVariants as cause
 use Rattle.pl_journal.specs.declared.entry.Entry.{Entry}
-use Rattle.pl_journal.specs.declared.entry.Entry.TheVariants.{Copied, Crossed, Dropped, Freed, Granted, LinkDown, LinkUp, Made, Moved, Placed, Redirected, Registered, Taken}
+use Rattle.pl_journal.specs.declared.entry.Entry.TheVariants.{Copied, Crossed, Dropped, Freed, Granted, LinkDown, LinkUp, Made, Moved, Placed, Redirected, Registered, Restarted, Taken}
 use Rattle.pl_node.specs.declared.acts.Act.{Act}
 use Rattle.pl_node.specs.declared.acts.Act.TheVariants as act
 use Rattle.pl_node.specs.declared.acts.HostAct.{HostAct}
@@ -36,6 +36,7 @@ use Rattle.pl_world.specs.Changes.{all_noted, begun_by, emptied_from_host, empti
 use Rattle.pl_world.specs.LinksAndMoves.{host_moved, link_failed, link_repaired, with_link}
 use Rattle.pl_world.specs.OtherActs.{host_act_done, manager_act_done}
 use Rattle.pl_world.specs.SwitchActs.{DuringActs, act_done, acts_done, begins, crossed_again, goes_out, granted, made, place_noted, with_late}
+use Rattle.pl_world.specs.Restarting.{in_epoch, manager_restarted}
 use Rattle.pl_world.specs.WorldRule.{HostTurn, ManagerTurn, SwitchTurn}
 use Rattle.pl_world.specs.Worlds.{WorldView}
 
@@ -299,3 +300,9 @@ module _ (R : WorldView → WorldView → Type 0) (May : Entry → Type 0) (writ
   repaired_left w link may links =
       let live : WorldView = record w { links = with_link w.links link true } in
       writes.on w live (link_repaired w link) (links w (with_link w.links link true)) (writes.entry live (LinkUp link.lower link.upper) may)
+
+  -- the manager begins anew
+  pub anew_left : (w : WorldView) → May (Restarted (w.manager.epoch + 1)) → ((u : WorldView) (n : ℕ) → R u (in_epoch u n)) → R w (manager_restarted w)
+  anew_left w may anew =
+      let n : ℕ = w.manager.epoch + 1 in
+      writes.on w (in_epoch w n) (manager_restarted w) (anew w n) (writes.entry (in_epoch w n) (Restarted n) may)

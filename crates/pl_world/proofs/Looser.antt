@@ -1,5 +1,5 @@
 -- A run of switches and a manager whose rules allow less is one of those whose rules allow more.
-use Rattle.std.proofs.Common.{◌≡◌, ℕ, ◌+◌, List, [], ◌∷◌, Option, Some, None, set, slice_get, sym, ap, subst, ◌∙◌}
+use Rattle.std.proofs.Common.{ℕ, ◌+◌, List, [], ◌∷◌, Option, Some, None, set, slice_get}
 use Rattle.pl_frame.specs.declared.address.SwitchId.{SwitchId}
 use Rattle.pl_wiring.specs.declared.link.Peer.{Peer}
 use Rattle.pl_wiring.specs.declared.link.Peer.TheVariants.{HostPort, Switch}
@@ -25,20 +25,16 @@ use Rattle.pl_world.specs.Changes.{out_of}
 use Rattle.pl_queues.specs.Queues.{items_at}
 use Rattle.pl_world.specs.Runs.{Moment, WorldRun}
 use Rattle.pl_world.specs.Runs.Moment.{Mark, Step}
-use Rattle.pl_world.specs.WorldRule.{ComesAtSwitch, ComesIn, ComesOver, Delivers, DeliversFromHost, DeliversFromManager, DeliversOut, DeliversToManager, Happens, SwitchTurn, WorldStep, heard_item}
+use Rattle.pl_world.specs.WorldRule.{ComesAtSwitch, ComesIn, ComesOver, Delivers, DeliversFromHost, DeliversFromManager, DeliversOut, DeliversToManager, Happens, SwitchTurn, heard_item}
 use Rattle.pl_world.specs.Worlds.{WorldView}
-use Rattle.pl_world.proofs.Beside.{ByActs, by_host, by_manager_acts, by_switch_acts, turned_by}
-use Rattle.pl_world.proofs.Turning.{Turned}
-use Rattle.pl_world.proofs.Turning.Turned.{NoTurn, OfFailed, OfHost, OfManager, OfMoved, OfRepaired, OfSwitch}
 
--- Of a manager of which something holds: what one rule allows it, another does too, and it still holds then.
-abbrev pub IsManagerWithin : (ManagerView → Type 0) → ManagerRule → ManagerRule → Type 0
-IsManagerWithin Holds one other =
+-- what one rule of a manager allows, another does too
+abbrev pub IsManagerWithin : ManagerRule → ManagerRule → Type 0
+IsManagerWithin one other =
     (before : ManagerView) (s : SwitchId) (says : ToManager) (after : ManagerView)
-    (acts : List ManagerAct) → Holds before → one before s says after acts → other before s says after acts × Holds after
+    (acts : List ManagerAct) → one before s says after acts → other before s says after acts
 
-module _ (one other : SwitchRule) (first second : ManagerRule) (host : HostRule) (within : AllowsNoMore one other)
-    (Holds : ManagerView → Type 0) (allowed : IsManagerWithin Holds first second) where
+module _ (one other : SwitchRule) (first second : ManagerRule) (host : HostRule) (within : AllowsNoMore one other) (allowed : IsManagerWithin first second) where
   turns : (w : WorldView) (s : ℕ) (input : SwitchInput) (speech : SpokenFrame) (new : WorldView) →
       SwitchTurn one w s input speech new → SwitchTurn other w s input speech new
   turns w s input speech new m = record {
@@ -78,67 +74,38 @@ module _ (one other : SwitchRule) (first second : ManagerRule) (host : HostRule)
   from_manager w s [] new m = absurd m
   from_manager w s (says ∷ items) new m = turns _ s _ _ new m
 
-  to_manager : (w : WorldView) (s : ℕ) (items : List ToManager) (new : WorldView) → Holds w.manager → DeliversToManager first w s items new →
+  to_manager : (w : WorldView) (s : ℕ) (items : List ToManager) (new : WorldView) → DeliversToManager first w s items new →
       DeliversToManager second w s items new
-  to_manager w s [] new holds m = absurd m
-  to_manager w s (told ∷ items) new holds m = record {
+  to_manager w s [] new m = absurd m
+  to_manager w s (told ∷ items) new m = record {
     id = m.id;
     after = m.after;
     acts = m.acts;
     found = m.found;
-    ruled = (allowed w.manager m.id told m.after m.acts holds m.ruled).0;
+    ruled = allowed w.manager m.id told m.after m.acts m.ruled;
     changed = m.changed;
   }
 
-  delivers : (w : WorldView) (name : QueueName) (new : WorldView) → Holds w.manager → Delivers one first host w name new → Delivers other second host w name new
-  delivers w (queue.FromHost h) new holds m = from_host w h.0 (items_at w.from_hosts h.0) new m
-  delivers w (queue.Port s port) new holds m = delivers_out w s.0 port (out_of w s.0 port) new m
-  delivers w (queue.ToManager s) new holds m = to_manager w s.0 (items_at w.to_manager s.0) new holds m
-  delivers w (queue.FromManager s) new holds m = from_manager w s.0 (items_at w.from_manager s.0) new m
+  delivers : (w : WorldView) (name : QueueName) (new : WorldView) → Delivers one first host w name new → Delivers other second host w name new
+  delivers w (queue.FromHost h) new m = from_host w h.0 (items_at w.from_hosts h.0) new m
+  delivers w (queue.Port s port) new m = delivers_out w s.0 port (out_of w s.0 port) new m
+  delivers w (queue.ToManager s) new m = to_manager w s.0 (items_at w.to_manager s.0) new m
+  delivers w (queue.FromManager s) new m = from_manager w s.0 (items_at w.from_manager s.0) new m
 
-  happens : (w : WorldView) (e : Event) (new : WorldView) → Holds w.manager → Happens one first host w e new → Happens other second host w e new
-  happens w (event.Deliver name) new holds m = delivers w name new holds m
-  happens w (event.Tick s) new holds m = turns _ s.0 _ _ new m
-  happens w e new holds m = m
+  happens : (w : WorldView) (e : Event) (new : WorldView) → Happens one first host w e new → Happens other second host w e new
+  happens w (event.Deliver name) new m = delivers w name new m
+  happens w (event.Tick s) new m = turns _ s.0 _ _ new m
+  happens w e new m = m
 
-  -- it holds of the manager then
-  still_holds : (w : WorldView) (e : Event) (new : WorldView) → Holds w.manager → Happens one first host w e new → Holds new.manager
-  still_holds w e new holds does = by (turned_by one first host w e new does)
-    where
-      same : new.manager ≡ w.manager → Holds new.manager
-      same is = subst Holds (sym is) holds
-
-      by : Turned ByActs one first host w e new → Holds new.manager
-      by (NoTurn r) = same (ap (λ (x : WorldView). x.manager) r)
-      by (OfSwitch mid s input speech r turn) = same (ap (λ (x : WorldView). x.manager) (by_switch_acts one mid s input speech new turn) ∙ ap (λ (x : WorldView). x.manager) r)
-      by (OfHost mid h input answer r turn) = same (ap (λ (x : WorldView). x.manager) (by_host host mid h input answer new turn) ∙ ap (λ (x : WorldView). x.manager) r)
-      by (OfManager mid s says r turn) =
-          let before : Holds mid.manager = subst Holds (sym (ap (λ (x : WorldView). x.manager) r)) holds in
-          subst Holds (sym (ap (λ (x : WorldView). x.manager) (by_manager_acts first mid s says new turn)))
-          (allowed mid.manager turn.id says turn.after turn.acts before turn.ruled).1
-      by (OfMoved h s port from is at turn) = same (ap (λ (x : WorldView). x.manager) (by_host host _ h.0 _ _ new turn))
-      by (OfFailed a b link is found fails) = same (ap (λ (x : WorldView). x.manager) fails)
-      by (OfRepaired a b link is found repairs) = same (ap (λ (x : WorldView). x.manager) repairs)
-
-  pub step_holds : (old : WorldView) (e : Event) (new : WorldView) → Holds old.manager → WorldStep one first host old e new → Holds new.manager
-  step_holds old e new holds step = still_holds (record old { steps = old.steps + 1 }) e new holds step
-
-  pub run_holds : (old : WorldView) (moments : List Moment) (new : WorldView) → Holds old.manager → WorldRun one first host old moments new → Holds new.manager
-  run_holds old [] new holds same = subst (λ (w : WorldView). Holds w.manager) (sym same) holds
-  run_holds old (Step e ∷ moments) new holds run = run_holds run.0 moments new (step_holds old e run.0 holds run.1.1) run.2
-  run_holds old (Mark entry ∷ moments) new holds run =
-      run_holds run.0 moments new (subst (λ (w : WorldView). Holds w.manager) (sym run.1.1) holds) run.2
-
-  pub run_allowed : (old : WorldView) (moments : List Moment) (new : WorldView) → Holds old.manager → WorldRun one first host old moments new →
+  pub run_allowed : (old : WorldView) (moments : List Moment) (new : WorldView) → WorldRun one first host old moments new →
       WorldRun other second host old moments new
-  run_allowed old [] new holds same = same
-  run_allowed old (Step e ∷ moments) new holds run =
-      (run.0, (run.1.0, happens (record old { steps = old.steps + 1 }) e run.0 holds run.1.1), run_allowed run.0 moments new (step_holds old e run.0 holds run.1.1) run.2)
-  run_allowed old (Mark entry ∷ moments) new holds run =
-      (run.0, run.1, run_allowed run.0 moments new (subst (λ (w : WorldView). Holds w.manager) (sym run.1.1) holds) run.2)
+  run_allowed old [] new same = same
+  run_allowed old (Step e ∷ moments) new run =
+      (run.0, (run.1.0, happens (record old { steps = old.steps + 1 }) e run.0 run.1.1), run_allowed run.0 moments new run.2)
+  run_allowed old (Mark entry ∷ moments) new run = (run.0, run.1, run_allowed run.0 moments new run.2)
 
 pub run_looser : (one other : SwitchRule) (manager : ManagerRule) (host : HostRule) → AllowsNoMore one other →
     (old : WorldView) (moments : List Moment) (new : WorldView) →
     WorldRun one manager host old moments new → WorldRun other manager host old moments new
 run_looser one other manager host within old moments new run =
-    run_allowed one other manager manager host within (λ view. Unit {0}) (λ before s says after acts holds ruled. (ruled, tt)) old moments new tt run
+    run_allowed one other manager manager host within (λ before s says after acts ruled. ruled) old moments new run

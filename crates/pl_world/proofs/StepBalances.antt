@@ -2,6 +2,7 @@
 use Rattle.std.proofs.Common.{◌≡◌, ℕ, zero, suc, ◌+◌, ◌<◌, ◌==◌, ◌&&◌, not, nat_le, nat_lt, Bool, true, false, if◌then◌else◌, List, [], ◌∷◌, ◌++◌, length, map, Option, Some, None, IsTrue, Contains, set, slice_get, refl, sym, ◌∙◌, subst, arith}
 use Rattle.std.specs.List.{find, fold}
 use Rattle.std.proofs.Math.ListN.{length-set}
+use Rattle.std.proofs.lemmas.List.{length-replicate}
 use Rattle.std.proofs.lemmas.Bool.{and_parts, leb-true, ltb-true, not-true}
 use Rattle.std.proofs.lemmas.Option.{slice_get_within}
 use Rattle.pl_wiring.specs.declared.label.SwitchNo.{SwitchNo}
@@ -21,7 +22,7 @@ use Rattle.pl_node.specs.declared.acts.ManagerAct.TheVariants.{Number, Say}
 use Rattle.pl_journal.specs.declared.cause.Cause.TheVariants as cause
 use Rattle.pl_journal.specs.declared.cause.Skip.{Skip}
 use Rattle.pl_journal.specs.declared.entry.Entry.{Entry}
-use Rattle.pl_journal.specs.declared.entry.Entry.TheVariants.{Arrived, Crossed, Dropped, LinkDown, LinkUp, Moved, Registered, Sent, Skipped}
+use Rattle.pl_journal.specs.declared.entry.Entry.TheVariants.{Arrived, Crossed, Dropped, LinkDown, LinkUp, Moved, Registered, Restarted, Sent, Skipped}
 use Rattle.pl_world.specs.declared.event.Event.{Event}
 use Rattle.pl_world.specs.declared.event.Event.TheVariants as event
 use Rattle.pl_world.specs.declared.event.QueueName.TheVariants as queue
@@ -55,11 +56,12 @@ use Rattle.pl_world.specs.Flying.{IsTreePort, IsCounted, IsFrame, IsItem, times_
 use Rattle.pl_queues.specs.Queues.{items_at}
 use Rattle.pl_world.specs.LinksAndMoves.{host_moved, item_lost, joins, link_between, with_link}
 use Rattle.pl_world.specs.OtherActs.{heard_after_tick, host_act_done, manager_act_done, reception_noted, skip_noted}
+use Rattle.pl_world.specs.Restarting.{in_epoch, manager_restarted}
 use Rattle.pl_world.specs.Refusals.{has_host, has_port, has_switch, is_full, is_for_hosts, refusal, refusal_of_event, refusal_of_link, refusal_of_move}
 use Rattle.pl_world.specs.WorldRule.{ComesAtHost, ComesAtSwitch, ComesOut, LinkFails, HostTurn, HostPlays, HostReceives, ManagerTurn, SwitchTurn, WorldStep, heard_item}
 use Rattle.pl_world.specs.Worlds.{WorldView}
 use Rattle.pl_world.proofs.Happenings.{Happened, happened}
-use Rattle.pl_world.proofs.Happenings.Happened.{Asked, Departed, Failed, FromHost, Lost, Ordered, OutOfPort, OverLink, PlayedFrame, Repaired, Reported, Ticked}
+use Rattle.pl_world.proofs.Happenings.Happened.{Asked, BeganAnew, Departed, Failed, FromHost, Lost, Ordered, OutOfPort, OverLink, PlayedFrame, Repaired, Reported, Ticked}
 use Rattle.pl_world.proofs.Balances.{Owes, begun_balance, emptied_host_balance, emptied_out_balance, head_is_item, noted_balance, put_host_balance, sent_is_item, took_host_balance, took_out_balance}
 use Rattle.pl_world.proofs.Counts.{all_found, all_set, one, times_in-data}
 use Rattle.pl_world.proofs.SwitchActBalances.{HasRest, Steady, all_acts_steady, owed_by, said_by, says_rest, told_rest}
@@ -297,6 +299,16 @@ manager_act w (Number pmac n) s = record {
   rest = s.rest;
 }
 
+-- it begins anew, and no frame is touched
+began_anew : (w : WorldView) → Sound w → Sound (manager_restarted w)
+began_anew w s =
+    let n : ℕ = w.manager.epoch + 1 in
+    record {
+      balance = noted_owes w (λ id. 0) (λ id. 0) (Restarted n ∷ []) refl (λ id. refl) s.balance;
+      rest = says_rest w.from_manager (in_epoch w n).from_manager (length-replicate (switch_count w.plan.k) _ ∙ sym s.rest.from_many)
+          (told_rest w.to_manager (in_epoch w n).to_manager (length-replicate (switch_count w.plan.k) _ ∙ sym s.rest.to_many) s.rest);
+    }
+
 manager_acts : (w : WorldView) (acts : List ManagerAct) → Sound w → Sound (fold manager_act_done w acts)
 manager_acts w [] s = s
 manager_acts w (a ∷ acts) s = manager_acts (manager_act_done w a) acts (manager_act w a s)
@@ -499,6 +511,7 @@ module _ (switch : SwitchRule) (manager : ManagerRule) (host : HostRule) (accoun
       (moves_to_a_port w h.0 t.0 port t refl (subst (λ e. refusal_of_event w e ≡ None) is none)) s turn
   by_case w happens new none s (PlayedFrame h input skip is turn) = host_plays host sends w h.0 input new s (record { skip = skip; turn = turn })
   by_case w happens new none s (Asked h input is turn) = host_turn host sends w h.0 input _ new s turn
+  by_case w happens new none s (BeganAnew is anew) = subst Sound (sym anew) (began_anew w s)
 
   -- a step keeps the count
   pub step_is_counted : (old : WorldView) (happens : Event) (new : WorldView) → IsCounted old → refusal old happens ≡ None →

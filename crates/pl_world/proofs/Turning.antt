@@ -1,5 +1,5 @@
 -- Each event is something that leaves the rest alone, and then at most one turn; a move and the links have cases of their own.
-use Rattle.std.proofs.Common.{◌≡◌, ℕ, false, List, [], Option, Some, None, set, slice_get, sym, subst}
+use Rattle.std.proofs.Common.{◌≡◌, ℕ, ◌+◌, false, List, [], Option, Some, None, set, slice_get, sym, subst}
 use Rattle.pl_layouts.specs.declared.place.Place.{Place}
 use Rattle.pl_pmac.specs.declared.pmac.Pmac.{Pmac}
 use Rattle.pl_wiring.specs.declared.host.HostNo.{HostNo}
@@ -10,7 +10,7 @@ use Rattle.pl_wiring.specs.LiveLinks.{LivePorts}
 use Rattle.pl_journal.specs.declared.cause.Cause.TheVariants as cause
 use Rattle.pl_journal.specs.declared.cause.Skip.{Skip}
 use Rattle.pl_journal.specs.declared.entry.Entry.{Entry}
-use Rattle.pl_journal.specs.declared.entry.Entry.TheVariants.{Arrived, Crossed, Dropped, LinkDown, LinkUp, Moved, Placed, Registered, Skipped}
+use Rattle.pl_journal.specs.declared.entry.Entry.TheVariants.{Arrived, Crossed, Dropped, LinkDown, LinkUp, Moved, Placed, Registered, Restarted, Skipped}
 use Rattle.pl_node.specs.declared.messages.ToManager.{ToManager}
 use Rattle.pl_node.specs.declared.messages.ToSwitch.{ToSwitch}
 use Rattle.pl_node.specs.declared.reception.Reception.{Reception}
@@ -34,12 +34,13 @@ use Rattle.pl_world.specs.declared.spoken_frame.SpokenFrame.TheVariants.{Silent,
 use Rattle.pl_world.specs.declared.attachment.AttachmentPoint.{AttachmentPoint}
 use Rattle.pl_world.specs.Changes.{host_no, noted, receiver, sent_by_host, switch_no}
 use Rattle.pl_world.specs.LinksAndMoves.{host_moved, item_lost, link_between, link_failed, link_repaired}
+use Rattle.pl_world.specs.Restarting.{in_epoch, manager_restarted}
 use Rattle.pl_world.specs.OtherActs.{heard_after_tick, reception_noted, skip_noted}
 use Rattle.pl_world.specs.WorldRule.{ComesAtHost, ComesAtSwitch, ComesOut, Happens, HostPlays, HostReceives, HostTurn, ManagerTurn, SwitchTurn, heard_item}
 use Rattle.pl_world.specs.Worlds.{WorldView}
 use Rattle.pl_world.proofs.Happenings.{Happened, happened}
-use Rattle.pl_world.proofs.Happenings.Happened.{Asked, Departed, Failed, FromHost, Lost, Ordered, OutOfPort, OverLink, PlayedFrame, Repaired, Reported, Ticked}
-use Rattle.pl_world.proofs.Leaving.{SwitchesWrite, Takes, Writes, empties_of, failed_left, host_acts_left, manager_acts_left, moved_left, repaired_left, switch_acts_left}
+use Rattle.pl_world.proofs.Happenings.Happened.{Asked, BeganAnew, Departed, Failed, FromHost, Lost, Ordered, OutOfPort, OverLink, PlayedFrame, Repaired, Reported, Ticked}
+use Rattle.pl_world.proofs.Leaving.{SwitchesWrite, Takes, Writes, anew_left, empties_of, failed_left, host_acts_left, manager_acts_left, moved_left, repaired_left, switch_acts_left}
 
 -- Something that R allows, and then a turn or nothing. A host moves and then turns; a link fails, or is repaired.
 pub data Turned (R : WorldView → WorldView → Type 0) (switch : SwitchRule) (manager : ManagerRule) (host : HostRule) (w : WorldView) (e : Event)
@@ -56,14 +57,16 @@ pub data Turned (R : WorldView → WorldView → Type 0) (switch : SwitchRule) (
       Turned R switch manager host w e new
   OfRepaired : (a b : SwitchNo) (link : Link) → e ≡ event.Repair a b → link_between w.plan a.0 b.0 ≡ Some link → new ≡ link_repaired w link →
       Turned R switch manager host w e new
+  OfRestarted : e ≡ event.Restart → new ≡ manager_restarted w → Turned R switch manager host w e new
 
--- R holds, or behind a move, or it was a link
+-- R holds, or behind a move, or it was a link, or the manager began anew
 pub data Left (R : WorldView → WorldView → Type 0) (w : WorldView) (e : Event) (new : WorldView) : Type 0 where
   Stays : R w new → Left R w e new
   Moves : (h : HostNo) (s : SwitchNo) (port : ℕ) (from : AttachmentPoint) → e ≡ event.Move h s port → slice_get w.attachments h.0 ≡ Some from →
       R (host_moved w h.0 from (record { edge = s; port = port })) new → Left R w e new
   LinkFails : (a b : SwitchNo) (link : Link) → e ≡ event.Fail a b → link_between w.plan a.0 b.0 ≡ Some link → new ≡ link_failed w link → Left R w e new
   Repairs : (a b : SwitchNo) (link : Link) → e ≡ event.Repair a b → link_between w.plan a.0 b.0 ≡ Some link → new ≡ link_repaired w link → Left R w e new
+  Restarts : e ≡ event.Restart → new ≡ manager_restarted w → Left R w e new
 
 -- what turns put and write, and the views that they set
 pub record Turns (R : WorldView → WorldView → Type 0) (May : Entry → Type 0) : Type 0 where
@@ -78,13 +81,15 @@ pub record Turns (R : WorldView → WorldView → Type 0) (May : Entry → Type 
   pub hosts : (w : WorldView) (h : ℕ) (view : HostView) → R w (record w { hosts = set w.hosts h view })
   pub manager : (w : WorldView) (view : ManagerView) → R w (record w { manager = view })
 
--- what moves and links change and write
+-- what moves, links and a manager that begins anew change and write
 pub record MovesAndLinks (R : WorldView → WorldView → Type 0) (May : Entry → Type 0) : Type 0 where
   pub moved : (h : HostNo) (s : SwitchNo) (port : ℕ) → May (Moved h s port)
   pub down : (lower upper : SwitchNo) → May (LinkDown lower upper)
   pub up : (lower upper : SwitchNo) → May (LinkUp lower upper)
   pub attachments : (w : WorldView) (h : ℕ) (to : AttachmentPoint) → R w (record w { attachments = set w.attachments h to; heard = set w.heard h None })
   pub links : (w : WorldView) (links : LivePorts) → R w (record w { links = links })
+  pub restarted : (n : ℕ) → May (Restarted n)
+  pub anew : (w : WorldView) (epoch : ℕ) → R w (in_epoch w epoch)
 
 module _ (R : WorldView → WorldView → Type 0) (May : Entry → Type 0) (writes : Writes R May) where
   -- ---- whole turns
@@ -213,6 +218,7 @@ module _ (R : WorldView → WorldView → Type 0) (May : Entry → Type 0) (writ
       by_case (Departed h s port from is at turn) = OfMoved h s port from is at turn
       by_case (PlayedFrame h input skip is turn) = OfHost (skip_noted w h.0 skip) h.0 input (Played skip) (skip_left skipped w h.0 skip) turn
       by_case (Asked h input is turn) = OfHost w h.0 input Nothing (writes.same w) turn
+      by_case (BeganAnew is restarts) = OfRestarted is restarts
 
       pub turned : Happens switch manager host w e new → This
       turned does = by_case (happened switch manager host w e new does)
@@ -228,8 +234,9 @@ module _ (R : WorldView → WorldView → Type 0) (May : Entry → Type 0) (writ
             Moves h s port from is at (host_left turns host (host_moved w h.0 from (record { edge = s; port = port })) h.0 HasMoved Nothing new turn)
         left_of (OfFailed a b link is found fails) = LinkFails a b link is found fails
         left_of (OfRepaired a b link is found repairs) = Repairs a b link is found repairs
+        left_of (OfRestarted is restarts) = Restarts is restarts
 
-        -- but for moves and links
+        -- but for moves, links and a manager that begins anew
         pub event_left_but : Happens switch manager host w e new → Left R w e new
         event_left_but does = left_of (turned does)
 
@@ -245,6 +252,8 @@ module _ (R : WorldView → WorldView → Type 0) (May : Entry → Type 0) (writ
               (rest.down link.lower link.upper) rest.links)
           all_left (Repairs a b link is found repairs) =
               subst (λ (x : WorldView). R w x) (sym repairs) (repaired_left R May writes w link (rest.up link.lower link.upper) rest.links)
+          all_left (Restarts is restarts) =
+              subst (λ (x : WorldView). R w x) (sym restarts) (anew_left R May writes w (rest.restarted (w.manager.epoch + 1)) rest.anew)
 
           -- over each event
           pub event_left : Happens switch manager host w e new → R w new

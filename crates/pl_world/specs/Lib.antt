@@ -3,6 +3,7 @@ pub mod Changes
 pub mod SwitchActs
 pub mod OtherActs
 pub mod LinksAndMoves
+pub mod Restarting
 pub mod Refusals
 pub mod WorldRule
 pub mod Runs

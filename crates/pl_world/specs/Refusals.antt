@@ -95,6 +95,7 @@ refusal_of_event w (event.Play h frame original raw) = unless_there (has_host w.
 refusal_of_event w (event.Retry h) = unless_there (has_host w.plan h.0)
 refusal_of_event w (event.Join h group) = unless_there (has_host w.plan h.0)
 refusal_of_event w (event.Leave h group) = unless_there (has_host w.plan h.0)
+refusal_of_event w event.Restart = None
 
 -- the first reason that holds; none where the step is made
 abbrev pub refusal : WorldView → Event → Option StepError

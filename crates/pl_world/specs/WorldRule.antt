@@ -35,6 +35,7 @@ use Rattle.pl_world.specs.declared.spoken_frame.SpokenFrame.TheVariants.{Silent,
 use Rattle.pl_world.specs.declared.attachment.AttachmentPoint.{AttachmentPoint}
 use Rattle.pl_world.specs.Changes.{noted, out_of, receiver, switch_no}
 use Rattle.pl_world.specs.LinksAndMoves.{host_moved, item_lost, link_between, link_failed, link_repaired}
+use Rattle.pl_world.specs.Restarting.{manager_restarted}
 use Rattle.pl_world.specs.OtherActs.{heard_after_tick, heard_with, host_stepped, manager_stepped, reception_noted, skip_noted}
 use Rattle.pl_queues.specs.Queues.{items_at}
 use Rattle.pl_world.specs.SwitchActs.{switch_stepped}
@@ -172,6 +173,7 @@ Happens switch manager host w (event.Play h frame original raw) new = HostPlays 
 Happens switch manager host w (event.Retry h) new = HostTurn host w h.0 Retries Nothing new
 Happens switch manager host w (event.Join h group) new = HostTurn host w h.0 (Joins group) Nothing new
 Happens switch manager host w (event.Leave h group) new = HostTurn host w h.0 (Leaves group) Nothing new
+Happens switch manager host w event.Restart new = new ≡ manager_restarted w
 
 -- A step of the world is an event, and is counted.
 abbrev pub WorldStep : SwitchRule → ManagerRule → HostRule → WorldView → Event → WorldView → Type 0

@@ -36,4 +36,6 @@ pub enum Event {
     Retry(HostNo),
     Join(HostNo, Ip4),
     Leave(HostNo, Ip4),
+    /// The fabric manager loses all that it knows, and begins anew.
+    Restart,
 }

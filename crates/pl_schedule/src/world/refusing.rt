@@ -43,6 +43,7 @@ impl<S: SwitchLogic, M: ManagerLogic, H: HostLogic> World<S, M, H> {
             Event::Retry(h) => unless_there(self.has_host(*h)),
             Event::Join(h, _) => unless_there(self.has_host(*h)),
             Event::Leave(h, _) => unless_there(self.has_host(*h)),
+            Event::Restart => None,
         }
     }
 

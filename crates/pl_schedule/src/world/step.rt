@@ -79,6 +79,7 @@ impl<S: SwitchLogic, M: ManagerLogic, H: HostLogic> World<S, M, H> {
             Event::Retry(h) => self.host_does(*h, HostCall::Retry),
             Event::Join(h, group) => self.host_does(*h, HostCall::Join(*group)),
             Event::Leave(h, group) => self.host_does(*h, HostCall::Leave(*group)),
+            Event::Restart => self.restart_manager(),
         }
     }
 

@@ -1,4 +1,4 @@
-use Rattle.pl_law_addresses.proofs.Consequences.{granted_once}
+use Rattle.pl_law_addresses.proofs.AddressesInRuns.{granted_once}
 use Rattle.pl_law_addresses.proofs.addresses_in_order.no_two_edge_switches_grant_one_address.Goals as goal
 
 pub returns : goal.returns

@@ -1,5 +1,5 @@
 use Rattle.pl_law_invariant.proofs.ExecutionsKeepInvariant.{draws_keep}
-use Rattle.pl_law_invariant.proofs.ControlInRuns.{lawful_run_keeps}
+use Rattle.pl_law_invariant.proofs.KeepingControl.{lawful_run_keeps}
 use Rattle.pl_law_invariant.proofs.execution_laws.drawn_steps_keep_all_of_it.Goals as goal
 
 pub returns : goal.returns

@@ -1,5 +1,5 @@
 use Rattle.pl_law_invariant.proofs.ExecutionsKeepInvariant.{makes_all_keeps, makes_keeps, ticks_all_keep}
-use Rattle.pl_law_invariant.proofs.ControlInRuns.{lawful_run_keeps}
+use Rattle.pl_law_invariant.proofs.KeepingControl.{lawful_run_keeps}
 use Rattle.pl_law_invariant.proofs.execution_laws.events_in_order_keep_all_of_it.Goals as goal
 
 pub returns-clause-one : goal.returns-clause-one

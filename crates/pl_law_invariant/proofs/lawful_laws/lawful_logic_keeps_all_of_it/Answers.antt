@@ -1,8 +1,10 @@
 use Rattle.pl_world.specs.Booting.{booted}
 use Rattle.pl_law_invariant.proofs.KeepingControl.{run_keeps_all}
-use Rattle.pl_law_invariant.proofs.LawfulRuns.{first_at_first, run_lawful}
+use Rattle.pl_law_invariant.proofs.LawfulRuns.{run_lawful}
 use Rattle.pl_law_invariant.proofs.lawful_laws.lawful_logic_keeps_all_of_it.Goals as goal
 
 pub returns : goal.returns
 returns g c = λ plan limits moments new can run.
-    run_keeps_all g.H.HostLogic.rule g.met.H.HostLogic.sends g.met.H.HostLogic.owns plan limits moments new can (run_lawful g.S.SwitchLogic.rule g.M.ManagerLogic.rule g.H.HostLogic.rule g.met.S.LooseSwitch.obeys g.met.M.LawfulManager.lawful (booted plan limits) moments new (first_at_first plan limits) run)
+    run_keeps_all g.H.HostLogic.rule g.met.H.HostLogic.sends g.met.H.HostLogic.owns plan limits moments new can
+    (run_lawful g.S.SwitchLogic.rule g.M.ManagerLogic.rule g.H.HostLogic.rule g.met.S.LooseSwitch.obeys g.met.M.LawfulManager.lawful
+    (booted plan limits) moments new run)

@@ -1,4 +1,4 @@
-use Rattle.pl_law_invariant.proofs.ControlInRuns.{lawful_run_keeps}
+use Rattle.pl_law_invariant.proofs.KeepingControl.{lawful_run_keeps}
 use Rattle.pl_law_invariant.proofs.run_laws.runs_of_lawful_logic_keep_all_of_it.Goals as goal
 
 pub returns : goal.returns

@@ -1,7 +1,9 @@
-use Rattle.std.proofs.Common.{None}
+use Rattle.std.proofs.Common.{None, arith}
 use Rattle.std.proofs.lemmas.Result.{IfOk-weaker}
 use Rattle.pl_inputs.specs.declared.words.Network.TheVariants.{Fabric}
 use Rattle.pl_inputs.specs.Loaded.{inputs_of}
+use Rattle.pl_world.specs.Booting.{booted}
+use Rattle.pl_law_ledger.proofs.Exports.{numbers_last}
 use Rattle.pl_law_theorem.proofs.Exports.{can_begin}
 use Rattle.pl_playing.specs.Networks.{on_fabric}
 use Rattle.pl_playing.specs.Outcomes.{Play, records_of, run_limits}
@@ -22,7 +24,8 @@ returns-clause-ok g c =
           let run = c.a_script_is_a_run.ensures i.plan run_limits (records_of i) i.lines None scene plays in
           record {
             behaviour = λ n host found. c.hosts_do_what_is_asked.ensures i.plan run_limits (records_of i) i.lines scene n host begins plays found;
-            one_switch = c.lawful_logic_is_one_switch.ensures i.plan run_limits run.0 scene.world begins run.1;
+            one_switch = c.lawful_logic_is_one_switch.ensures i.plan run_limits run.0 scene.world begins run.1
+                (numbers_last g.S.SwitchLogic.rule g.M.ManagerLogic.rule g.H.HostLogic.rule (booted i.plan run_limits) run.0 scene.world run.1 (omega arith));
           };
     } in
     IfOk-weaker c.play_script.result (λ p. IsPlayedOver play.leads i (played_over p.0 p.1.items)) (λ p. IsPlayedTo play i (played_over p.0 p.1.items))

@@ -1,10 +1,13 @@
-use Rattle.std.proofs.Common.{option_map, ap, sym, ◌∙◌}
+use Rattle.std.proofs.Common.{option_map, ap, subst, sym, ◌∙◌}
 use Rattle.pl_schedule.specs.Coming.{coming_of}
 use Rattle.pl_world.proofs.Exports.{event_is_not_refused}
 use Rattle.pl_watch.specs.Seen.{Kept}
-use Rattle.pl_watch.specs.Telling.{node_in}
+use Rattle.pl_watch.specs.Events.{manager_of}
+use Rattle.pl_watch.specs.Logs.{lost_lines}
+use Rattle.pl_watch.specs.Pages.{PageView}
+use Rattle.pl_watch.specs.Telling.{Tells, node_in}
 use Rattle.pl_watch.proofs.Finishing.{manager_told, nothing_told, switch_told}
-use Rattle.pl_watch.proofs.Hearing.{none_left, none_mapped, not_spent, on_both}
+use Rattle.pl_watch.proofs.Hearing.{none_left, none_mapped, not_spent, on_both, on_ok}
 use Rattle.pl_watch.proofs.chronicle.Chronicle.tell_event.Goals as goal
 
 pub told_of-told-requires : goal.told_of-told-requires
@@ -61,11 +64,23 @@ tell_lost-requires-clause-allowed g c = event_is_not_refused c.args.world.now c.
 pub tell_lost-requires-clause-node : goal.tell_lost-requires-clause-node
 tell_lost-requires-clause-node g c = ap node_in c.begin_event.ensures.page.told ∙ c.told_of-told.ensures.node
 
+pub follow_restart-requires : goal.follow_restart-requires
+follow_restart-requires g c =
+    ap (λ (k : Kept). k.manager) c.tell_lost.ensures.kept ∙ ap (λ (k : Kept). k.manager) c.begin_event.ensures.kept ∙ c.requires.seen.same_manager
+
 pub returns : goal.returns
-returns g c = λ new step.
-    nothing_told g.S.SwitchLogic.rule g.M.ManagerLogic.rule g.H.HostLogic.rule c.args.self.now c.begin_event.new.self c.tell_lost.new.self
-    c.args.world.now c.args.event.now c.told_of-told.result c.begin_event.new.told c.tell_lost.new.told new c.requires.allowed step c.requires.seen
+returns g c =
+    let w = c.args.world.now in
+    let e = c.args.event.now in
+    let mid = c.begin_event.new.self in
+    on_ok c.follow_restart.result _ _ (λ follows. λ new step.
+    let page = sym (ap (λ (k : Kept). k.page) follows) in
+    nothing_told g.S.SwitchLogic.rule g.M.ManagerLogic.rule g.H.HostLogic.rule c.args.self.now mid c.follow_restart.new.self
+    w e c.told_of-told.result c.begin_event.new.told c.tell_lost.new.told new c.requires.allowed step c.requires.seen
     c.requires.all c.told_of-told.ensures c.begin_event.ensures.page
     (sym c.telling.ensures.telling ∙ none_mapped _ c.telling.result c.in_default-telling.not-Some)
     (sym c.coming.ensures.coming ∙ ap (option_map coming_of) (none_left c.coming.result c.in_default.not-Some)) c.begin_event.ensures.kept
-    c.tell_lost.ensures.kept c.tell_lost.ensures.told
+    (follows ∙ ap (λ (k : Kept). record k { manager = manager_of w e }) c.tell_lost.ensures.kept
+    ∙ ap (λ (p : PageView). record mid { page = p; manager = manager_of w e }) page)
+    (subst (λ (p : PageView). Tells mid.page p c.begin_event.new.told c.tell_lost.new.told (lost_lines w e)) page c.tell_lost.ensures.told))
+    c.follow_restart.ensures

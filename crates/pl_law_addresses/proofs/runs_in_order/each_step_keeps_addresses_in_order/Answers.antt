@@ -1,6 +1,0 @@
-use Rattle.pl_law_addresses.proofs.AddressesInRuns.{one_step}
-use Rattle.pl_law_addresses.proofs.runs_in_order.each_step_keeps_addresses_in_order.Goals as goal
-
-pub returns : goal.returns
-returns g c = λ old event new counted grounded apart step o.
-    one_step g.H.HostLogic.rule g.met.H.HostLogic.sends g.met.H.HostLogic.owns old event new counted grounded apart step o

@@ -1,3 +1,0 @@
-pub mod Tenures
-pub mod Phases
-pub mod PhaseExamples

@@ -53,8 +53,8 @@ globalThis.Facts = (() => {
     const addressFacts = (run, state, host) => run.addresses
         .filter(address => address.host === host && address.granted < state.entry)
         .map(address => {
-            const number = Journal.registrationAt(address, state.entry);
-            const registered = Journal.isFreed(address, state.entry) ? "freed" : number > 0 ? `registered as ${number}` : "not registered";
+            const known = Journal.registrationAt(run, address, state.entry);
+            const registered = Journal.isFreed(address, state.entry) ? "freed" : known ? `registered as ${known.number}` : "not registered";
             return [Frames.macText(address.number), `port ${address.port} of ${Words.switchOf(run, address.edge)}, ${registered}`];
         });
 

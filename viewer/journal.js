@@ -12,7 +12,8 @@ globalThis.Journal = (() => {
         "granted", "registered", "placed", "linkdown", "linkup", "moved", "settled", "unsettled", "freed", "restarted"];
     const KIND = Object.fromEntries([...WORDS, "other", "event"].map((word, kind) => [word, kind]));
     // what happens in an event: of each the parts of its line behind the word
-    const EVENTS = ["along", "tick", "enters", "leaves", "told", "says", "fail", "repair", "lose", "move", "start", "send", "raw", "retry", "join", "leave"];
+    const EVENTS = ["along", "tick", "enters", "leaves", "told", "says", "fail", "repair", "lose", "move", "start", "send", "raw", "retry", "join", "leave",
+        "restart"];
     const EVENT = Object.fromEntries(EVENTS.map((word, event) => [word, event]));
     const CAUSES = ["NotPlaced", "NoNextHop", "NoAddress", "HostGone", "LinkDown", "Lost", "Spent", "BadArp", "NoMember"];
     const SKIPS = ["CutRecord", "Short", "Long", "ForeignSource", "ControlType", "RecordedArp", "NoOwner", "HoldFull"];
@@ -343,7 +344,8 @@ globalThis.Journal = (() => {
         else run.at[n] = run.b[n];
     };
 
-    // Of an event `a` is the switch whose turn it is and `b` the other one, or the host; -1 is none. `c` is what happens.
+    // Of an event `a` is the switch whose turn it is and `b` the other one, or the host; -1 is none. `c` is what happens. A restart, of the
+    // fabric manager, has neither.
     const ofLink = (lines, run, n, event) => {
         const from = lines.switch(run.fabric.k);
         lines.part("a port", run.fabric.k - 1);
@@ -389,7 +391,7 @@ globalThis.Journal = (() => {
         else if (verb === "fail" || verb === "repair") {
             run.a[n] = lines.switch(run.fabric.k);
             run.b[n] = lines.switch(run.fabric.k);
-        } else {
+        } else if (verb !== "restart") {
             run.b[n] = lines.host(run.fabric);
             if (verb === "move") {
                 run.a[n] = lines.switch(run.fabric.k);
@@ -465,15 +467,21 @@ globalThis.Journal = (() => {
     // the entry with which a frame began, for a copy that of the frame that it comes from
     const beginning = (run, id) => run.begin[run.root[id]];
 
-    // the entry of a line of the script, of the next one that has an entry where it has none; -1 behind the last
-    const ofLine = (run, number) => {
-        let [low, high] = [0, run.scriptLines.length];
+    // how many in a list have a number below this one; they stand by rising numbers
+    const countBelow = (list, number, numberOf) => {
+        let [low, high] = [0, list.length];
         while (low < high) {
             const middle = (low + high) >> 1;
-            if (run.a[run.scriptLines[middle]] < number) low = middle + 1;
+            if (numberOf(list[middle]) < number) low = middle + 1;
             else high = middle;
         }
-        return low < run.scriptLines.length ? run.scriptLines[low] : -1;
+        return low;
+    };
+
+    // the entry of a line of the script, of the next one that has an entry where it has none; -1 behind the last
+    const ofLine = (run, number) => {
+        const before = countBelow(run.scriptLines, number, n => run.a[n]);
+        return before < run.scriptLines.length ? run.scriptLines[before] : -1;
     };
 
     // the grant of an address that was the last of the first n entries, or null
@@ -485,10 +493,17 @@ globalThis.Journal = (() => {
 
     const isFreed = (address, n) => address.freed >= 0 && address.freed < n;
 
-    // the number with which a grant is registered once n entries have happened, 0 where it is not
-    const registrationAt = ({ registrations }, n) => {
-        const found = registrations.filter(({ entry }) => entry < n);
-        return found.length === 0 ? 0 : found[found.length - 1].number;
+    // the last of the first n entries with which the manager restarted, -1 where none did
+    const restartAt = ({ restarts }, n) => {
+        const count = countBelow(restarts, n, entry => entry);
+        return count === 0 ? -1 : restarts[count - 1];
+    };
+
+    // The entry and the number with which a grant is registered once n entries have happened, or null: what the manager learnt before it
+    // restarted it has forgotten.
+    const registrationAt = (run, { registrations }, n) => {
+        const count = countBelow(registrations, n, ({ entry }) => entry);
+        return count > 0 && registrations[count - 1].entry > restartAt(run, n) ? registrations[count - 1] : null;
     };
 
     // Whether a learning bridge played the run: it takes links out before the first line of the script.
@@ -498,6 +513,6 @@ globalThis.Journal = (() => {
 
     return {
         WORDS, KIND, EVENTS, EVENT, CAUSES, SKIPS, read, text, frame, hasFrame, frameOf, beginning, ofLine, unpackPlace,
-        grantAt, isFreed, registrationAt, isOfBridge, isLeftOut,
+        grantAt, isFreed, restartAt, registrationAt, isOfBridge, isLeftOut,
     };
 })();

@@ -27,10 +27,9 @@ globalThis.Knowledge = (() => {
     };
 
     const address = ({ run }, n, now) => {
-        const { number, host, edge, port, granted, registrations, freed } = run.addresses[n];
-        const registered = registrations.filter(({ entry }) => entry < now);
-        const last = registered.length > 0 ? registered[registered.length - 1] : null;
-        const isFreed = freed >= 0 && freed < now;
+        const { number, host, edge, port, granted, freed } = run.addresses[n];
+        const isFreed = Journal.isFreed(run.addresses[n], now);
+        const last = Journal.registrationAt(run, run.addresses[n], isFreed ? freed : now);
         return {
             subject: { host },
             cells: [Words.hostOf(run, host), `${Frames.macText(number)} at ${Words.switchOf(run, edge)} port ${port}`],
@@ -62,7 +61,7 @@ globalThis.Knowledge = (() => {
         }
         const granted = run.addresses.slice(0, Stories.happened(grants, now));
         const free = granted.filter(one => Journal.isFreed(one, now)).length;
-        const known = granted.filter(one => !Journal.isFreed(one, now) && Journal.registrationAt(one, now) > 0).length;
+        const known = granted.filter(one => !Journal.isFreed(one, now) && Journal.registrationAt(run, one, now)).length;
         return `${granted.length} granted, ${known} registered, ${free} freed`;
     };
 

@@ -199,8 +199,8 @@ globalThis.Page = (() => {
         if (!page.known) page.known = Knowledge.of(page.run);
         const { entry, counts } = page.state;
         const list = $("knowledge").value;
-        const { placed, granted, registered, freed } = Journal.KIND;
-        const key = [counts[placed], counts[granted], counts[registered], counts[freed], list, $("filter").value].join(" ");
+        const { placed, granted, registered, freed, restarted } = Journal.KIND;
+        const key = [...[placed, granted, registered, freed, restarted].map(kind => counts[kind]), list, $("filter").value].join(" ");
         if (key === page.known.key) return; // nothing in it has happened
         page.known.key = key;
         knownRows = Knowledge.rows(page.known, list, $("filter").value, entry);

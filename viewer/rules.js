@@ -42,6 +42,11 @@ globalThis.Rules = (() => {
         NoMember: "Look at the `join` and `leave` lines of the script for that group, and at whether the reports arrived.",
     };
     const BACK = "No loss: the tree of a group, or of a flood, reaches the sender's own switch too, and nobody else there is to have a copy.";
+    // Behind a restart of the manager these causes may come of that.
+    const FORGOTTEN = ["NoNextHop", "NoMember"];
+    const forgottenText = entry => ` The fabric manager restarted by entry ${entry + 1}: a switch that has heard of it avoids nothing and knows no part of a tree `
+        + "until it is told anew.";
+
     const LOOK_AT_BRIDGES = {
         NoNextHop: "No loss, unless its host moved and has not sent since: it stands on the side of the tree from which the frame came, where a flood "
             + "has reached it.",
@@ -74,7 +79,8 @@ globalThis.Rules = (() => {
         if (run.kind[n] !== KIND.dropped) return "";
         const cause = CAUSES[run.b[n]];
         if (Journal.isOfBridge(run)) return LOOK_AT_BRIDGES[cause] || LOOK[cause];
-        return Words.isBack(run, n) ? BACK : LOOK[cause];
+        const restart = FORGOTTEN.includes(cause) ? Journal.restartAt(run, n) : -1;
+        return Words.isBack(run, n) ? BACK : `${LOOK[cause]}${restart < 0 ? "" : forgottenText(restart)}`;
     };
 
     return { of, look, rowOf, bridgeRowOf };

@@ -109,9 +109,16 @@ globalThis.Said = (() => {
         return [...groups].map(([key, group]) => (typeof key === "string" ? sent(group) : short(group[0])));
     };
 
-    const COMES = { [EVENT.tick]: "ticks", [EVENT.fail]: "loses a link", [EVENT.repair]: "has a link repaired" };
+    const COMES = { [EVENT.tick]: "ticks", [EVENT.fail]: "loses a link", [EVENT.repair]: "has a link repaired", [EVENT.restart]: "restarts" };
 
-    const subject = (run, n) => (run.a[n] >= 0 ? run.fabric.switches[run.a[n]].label : run.fabric.hosts[run.b[n]].name);
+    // the switch whose turn it is in an event, else the host; null where the fabric manager restarts
+    const turnOf = (run, n) => (run.a[n] >= 0 ? { switch: run.a[n] } : run.b[n] >= 0 ? { host: run.b[n] } : null);
+
+    const subject = (run, n) => {
+        const turn = turnOf(run, n);
+        if (!turn) return "The fabric manager";
+        return turn.host === undefined ? run.fabric.switches[turn.switch].label : run.fabric.hosts[turn.host].name;
+    };
 
     // what happens in an event: who, and at most so many of the lines below it
     const sentence = (run, n, most = 6) => {
@@ -190,5 +197,5 @@ globalThis.Said = (() => {
         ];
     };
 
-    return { below, heard, from, carried, sentence, note, known, facts, isLog };
+    return { below, heard, from, turnOf, carried, sentence, note, known, facts, isLog };
 })();

@@ -54,7 +54,7 @@ globalThis.Scene = (() => {
         if (kind === KIND.registered) return { host: run.addresses[run.a[n]].host };
         if (kind === KIND.freed) return { switch: run.addresses[run.a[n]].edge };
         if (kind === KIND.placed) return { switch: run.a[n] };
-        if (kind === KIND.event) return run.a[n] >= 0 ? { switch: run.a[n] } : { host: run.b[n] };
+        if (kind === KIND.event) return Said.turnOf(run, n);
         return kind === KIND.linkdown || kind === KIND.linkup ? { link: run.a[n] } : null;
     };
 

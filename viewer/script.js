@@ -37,7 +37,7 @@ globalThis.Script = (() => {
     const CHECKS = {
         arrived: ([host, n]) => `${n} frames have arrived at host ${host}`,
         dropped: ([cause, n]) => `${n} frames were dropped as ${cause}`,
-        address: ([host, address]) => `the newest address of host ${host} that was registered is ${address}`,
+        address: ([host, address]) => `the address of host ${host} that was registered last is ${address}`,
         settled: () => "the last `settle` line left the fabric settled",
     };
 

@@ -140,10 +140,15 @@ globalThis.Words = (() => {
         return `Switch ${here} receives frame ${id}, on its way ${way} from ${switchOf(run, from.switch)}.`;
     };
 
+    // The manager takes for the newer address of a host the one that it learnt later, which may have been granted earlier.
     const redirected = (run, n) => {
-        const [old, { number, host }] = [run.addresses[run.b[n]], run.addresses[run.c[n]]];
-        return `Host ${hostOf(run, host)} has moved on: frame ${run.a[n]}, for ${Frames.macText(old.number)}, `
-            + `goes on to its newer address ${Frames.macText(number)} (${parts(number)}).`;
+        const [old, address] = [run.addresses[run.b[n]], run.addresses[run.c[n]]];
+        const [name, isNewer] = [hostOf(run, address.host), address.granted > old.granted];
+        const isThere = address.edge === old.edge && address.port === old.port;
+        const why = !isNewer ? `The fabric manager took an earlier address of host ${name} for the newer one`
+            : `Host ${name} ${isThere ? "has a newer address at the same port" : "has moved on"}`;
+        return `${why}: frame ${run.a[n]}, for ${Frames.macText(old.number)}, goes on to ${isNewer && !isThere ? "its newer address " : ""}`
+            + `${Frames.macText(address.number)} (${parts(address.number)}).`;
     };
 
     // the switches that the frame crossed, one after the other

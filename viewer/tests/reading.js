@@ -158,7 +158,8 @@ const an_address_is_freed_granted_and_registered_again = () => {
     const free = "freed 00:00:00:00:00:01\n";
     const run = openTexts(HOSTS, `${GRANT}registered 00:00:00:00:00:01 1\nrestarted 1\nregistered 00:00:00:00:00:01 4294967297\n${free}${GRANT}`);
     assert.deepEqual(run.addresses.map(({ granted, freed, earlier }) => [granted, freed, earlier]), [[0, 4, -1], [5, -1, 0]]);
-    assert.deepEqual([1, 2, 3, 4].map(n => Journal.registrationAt(run.addresses[0], n)), [0, 1, 1, 4294967297]);
+    const numberAt = n => (Journal.registrationAt(run, run.addresses[0], n) || { number: 0 }).number;
+    assert.deepEqual([1, 2, 3, 4].map(numberAt), [0, 1, 0, 4294967297]);
     assert.equal(Journal.grantAt(run, 1, 5), run.addresses[0]);
     assert.equal(Journal.grantAt(run, 1, 6), run.addresses[1]);
     assert.equal(Journal.grantAt(run, 1, 0), null);
@@ -211,6 +212,8 @@ const each_line_of_the_stored_scripts_has_a_sentence = () => {
             assert.equal(Script.sentence(line) !== "", words.length > 0, `${folder}: ${line}`);
         }
     }
+    // Which is the newest that the host was granted may be another one: behind a restart addresses are registered in the order of the reports.
+    assert.equal(Script.sentence("expect address d 00:01:00:00:00:01"), "it is checked that the address of host d that was registered last is 00:01:00:00:00:01");
     assert.equal(Script.sentence("  move\td e0.1 1 # away"), "host d moves to port 1 of e0.1");
     assert.deepEqual(Script.read("a\r\nb\n"), ["a", "b"]);
 };

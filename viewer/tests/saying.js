@@ -1,7 +1,9 @@
 "use strict";
 // A log of `portland watch`, read, told and drawn.
 const assert = require("assert");
-const { openTexts } = require("./load.js");
+const fs = require("fs");
+const path = require("path");
+const { top, folders, open, openTexts } = require("./load.js");
 
 const TOPOLOGY = `k = 4
 [[host]]
@@ -109,7 +111,118 @@ const a_log_that_is_none_is_refused_with_its_line = () => {
     }
 };
 
+// An event of each word that a log has, and the switch or host at which it is drawn: that of `node_of`, or the host; a restart has neither.
+const EVENTS = {
+    deliver: ["deliver e0.0 2 a0.0 0", { switch: 8 }], tick: ["tick e0.0", { switch: 0 }], fail: ["fail e0.0 a0.0", { switch: 0 }],
+    repair: ["repair e0.0 a0.0", { switch: 0 }], lose: ["lose e0.0 2 a0.0 0", { switch: 0 }], move: ["move a e0.1 1", { switch: 1 }],
+    start: ["start a", { host: 0 }], send: ["send a", { host: 0 }], raw: ["raw a", { host: 0 }], retry: ["retry a", { host: 0 }],
+    join: ["join a 239.1.2.3", { host: 0 }], leave: ["leave a 239.1.2.3", { host: 0 }], restart: ["restart", null],
+};
+
+const each_event_of_a_log_is_read = () => {
+    const rule = fs.readFileSync(path.join(top, "crates/pl_watch/specs/Events.antt"), "utf8");
+    const words = [...rule.matchAll(/^event_words .*$/gm)].flatMap(([line]) => [...line.matchAll(/codes "(\w+)"/g)].map(found => found[1]));
+    assert.deepEqual(new Set(words.filter(word => word !== "manager")), new Set(Object.keys(EVENTS)));
+    for (const [line, place] of Object.values(EVENTS)) {
+        const run = openTexts(TOPOLOGY, `line 1\n@ 1 ${line}\n`);
+        const { now } = Scene.of(run, At.at(At.run(run), 2));
+        assert.deepEqual(now.place, place, line);
+        assert.match(Words.sentence(run, 1), /^(e0\.[01]|a0\.0|a|The fabric manager) [a-z].*\.$/, line);
+    }
+};
+
+// A switch that is to avoid something and has a part of a tree, and then hears that the manager begins anew.
+const RESTART = `line 1
+@ 1 deliver manager e0.0
+  heard avoid
+  knows avoid + a0.0 1 0
+@ 2 deliver manager e0.0
+  heard tree 8388608 a0.1 0
+  knows tree 8388608 a0.1 0
+line 2
+@ 3 restart
+restarted 1
+line 3
+@ 4 deliver manager e0.0
+  heard hello 1
+  knows avoid - a0.0 1 0
+  knows tree 8388608
+  tells begin 1
+  tells place 0 0 0
+  tells end 1
+line 4
+@ 5 deliver e0.0 manager
+  heard begin 1
+@ 6 deliver e0.0 manager
+  heard place 0 0 0
+@ 7 deliver e0.0 manager
+  heard end 1
+  does number 00:00:00:00:00:01 4294967297
+@ 8 tick e0.0
+`;
+
+const a_restart_is_an_event_of_the_manager = () => {
+    const run = openTexts(TOPOLOGY, RESTART);
+    const said = step => Words.sentence(run, eventAt(run, step));
+    assert.equal(said(3), "The fabric manager restarts.");
+    const { now } = Scene.of(run, At.at(At.run(run), eventAt(run, 3) + 1));
+    assert.deepEqual([now.place, now.from, now.note, now.control], [null, null, "", ""]);
+    assert.deepEqual(Rules.of(run, eventAt(run, 3)), []);
+    assert.ok(Rules.of(run, eventAt(run, 3) + 1)[0].says.includes("`manager_restarted`"));
+    const stories = [...run.fabric.switches.map((_, n) => ({ switch: n })), { host: 0 }].flatMap(subject => Stories.of(run, subject));
+    assert.ok(!stories.includes(eventAt(run, 3)), "it is of no switch and no host");
+    assert.ok(said(4).startsWith("e0.0 hears: I begin anew, for the time of number 1, and know nothing; avoids a0.0 for pod 1 position 0 no more; "), said(4));
+    assert.ok(said(4).includes("; has no part of the tree of group 8388608; "), said(4));
+    assert.ok(said(4).includes("; tells the manager: this is all that you have to know of me, for the time of number 1; "), said(4));
+    assert.equal(said(5), "The fabric manager hears from e0.0: this is all that you have to know of me, for the time of number 1.");
+    assert.ok(said(7).startsWith("The fabric manager hears from e0.0: that was all, for the time of number 1; "), said(7));
+};
+
+// A switch forgets nothing at the restart, and what to avoid and its trees when it hears of it (docs/RULES.md, "A manager that begins anew").
+const a_switch_forgets_once_it_hears_of_a_restart = () => {
+    const run = openTexts(TOPOLOGY, RESTART);
+    const knownAfter = step => Said.known(run, 0, eventAt(run, step) + 1);
+    const parts = step => [[...knownAfter(step).avoid], [...knownAfter(step).trees]];
+    assert.deepEqual(parts(3), [["a0.0 1 0"], [["8388608", ["a0.1"]]]]);
+    assert.deepEqual(parts(4), [[], []]);
+    assert.deepEqual(parts(8), [[], []]);
+};
+
+// A log has the line of the event before the entry that it wrote.
+const restarts_of_stored_runs_are_read_as_events = () => {
+    let restarts = 0;
+    for (const folder of folders().filter(name => /restart/.test(name))) {
+        const { run: stored, journal } = open(folder);
+        const log = journal.replace(/^restarted (\d+)$/gm, "@ $1 restart\nrestarted $1");
+        const run = openTexts(fs.readFileSync(path.join(folder, "topology.toml"), "utf8"), log);
+        const events = Array.from({ length: run.count }, (_, n) => n).filter(n => run.kind[n] === Journal.KIND.event);
+        const wanted = stored.restarts.map((_, n) => [`@ ${n + 1} restart`, `restarted ${n + 1}`]);
+        restarts += events.length;
+        assert.equal(run.count - events.length, stored.count, folder);
+        assert.deepEqual(events.map(n => [Journal.text(run, n), Journal.text(run, n + 1)]), wanted, folder);
+        assert.deepEqual([...At.at(At.run(run), run.count).places], [...At.at(At.run(stored), stored.count).places], folder);
+    }
+    assert.ok(restarts > 15, `${restarts}`);
+};
+
+// The tables of docs/LOG.md of what is heard and known, and the verb of such a line: each form in them is told in words, and not as it stands.
+const TABLES = [["Control frames.", "heard"], ["Messages to the manager,", "heard"], ["Messages of the manager,", "heard"], ["What a switch knows:", "knows"]];
+
+const each_kind_of_a_log_has_its_words = () => {
+    const page = fs.readFileSync(path.join(top, "docs/LOG.md"), "utf8");
+    const rowsOf = head => page.slice(page.indexOf(head)).split("\n\n")[1].split("\n").slice(2);
+    const formsOf = row => [...row.split(" | ")[0].matchAll(/`([a-z][^`]+)`/g)].map(found => found[1]);
+    const forms = TABLES.flatMap(([head, verb]) => rowsOf(head).flatMap(formsOf).map(form => [verb, form])).filter(([, form]) => form !== "frame NUMBER");
+    assert.ok(["begin EPOCH", "end EPOCH", "hello EPOCH"].every(wanted => forms.some(([, form]) => form === wanted)) && forms.length > 30, `${forms}`);
+    for (const [verb, form] of forms) {
+        const said = Words.sentence(openTexts(TOPOLOGY, `line 1\n@ 1 deliver manager e0.0\n  ${verb} ${form}\n`), 1);
+        assert.ok(![`e0.0 hears: ${form}.`, `e0.0 knows ${form}.`].includes(said), said);
+    }
+};
+
 module.exports = {
+    each_event_of_a_log_is_read, a_restart_is_an_event_of_the_manager, a_switch_forgets_once_it_hears_of_a_restart, restarts_of_stored_runs_are_read_as_events,
+    each_kind_of_a_log_has_its_words,
     the_journal_of_a_log_is_its_lines_that_begin_with_a_letter, an_event_says_who_hears_whom, a_control_frame_moves_along_its_link,
     a_switch_shows_what_it_knows_at_that_moment, an_event_is_told_in_a_sentence, a_log_that_is_none_is_refused_with_its_line,
 };

@@ -4,7 +4,7 @@
 const assert = require("assert");
 const fs = require("fs");
 const path = require("path");
-const { top, folders, open, BESIDE, openBeside, openTexts } = require("./load.js");
+const { top, folders, open, BESIDE, openBeside, openTexts, patience } = require("./load.js");
 
 // run, line of the journal, words of its rules, and how what to look at begins
 const RULES = [
@@ -166,6 +166,109 @@ const what_is_known_is_what_has_happened = () => {
     assert.equal(Knowledge.summary(known, "placed", 0), "0 of 20 switches are placed");
 };
 
+// What the manager knows of addresses by the lines of a journal: the number of each that is registered. One that begins anew knows nothing
+// (docs/RULES.md, `restarted_manager`), and what it releases it forgets.
+const learntBy = lines => {
+    const learnt = new Map();
+    for (const line of lines) {
+        const [word, pmac, number] = line.split(" ");
+        if (word === "registered") learnt.set(pmac, number);
+        else if (word === "freed") learnt.delete(pmac);
+        else if (word === "restarted") learnt.clear();
+    }
+    return learnt;
+};
+
+// what is granted of the first lines and not freed, each with the line of its grant
+const grantsIn = lines => {
+    const live = new Map();
+    lines.forEach((line, n) => {
+        const [word, pmac] = line.split(" ");
+        if (word === "granted") live.set(pmac, n);
+        else if (word === "freed") live.delete(pmac);
+    });
+    return live;
+};
+
+// the last entry before each change of what is known, and the change itself
+const changesIn = lines => [...new Set(lines.flatMap((line, n) => (/^(granted|registered|freed|restarted) /.test(line) ? [n, n + 1] : [])))];
+
+const what_the_manager_knows_goes_with_a_restart = () => {
+    let forgotten = 0;
+    for (const folder of folders()) {
+        const { run, states, journal } = open(folder);
+        if (Journal.isOfBridge(run)) continue;
+        const lines = journal.split("\n").slice(0, -1);
+        const known = Knowledge.of(run);
+        for (const now of changesIn(lines)) {
+            const [past, state, what] = [lines.slice(0, now), At.at(states, now), `${folder} at ${now}`];
+            const [learnt, live] = [learntBy(past), grantsIn(past)];
+            const count = word => past.filter(line => line.startsWith(`${word} `)).length;
+            if (now > 0 && lines[now - 1].startsWith("restarted ") && live.size > 0) forgotten++;
+            assert.equal(Knowledge.summary(known, "addresses", now), `${count("granted")} granted, ${learnt.size} registered, ${count("freed")} freed`, what);
+            const rows = new Map(Knowledge.rows(known, "addresses", "", now).map(n => [run.addresses[n].granted, Knowledge.row(known, "addresses", n, now)]));
+            const facts = run.fabric.hosts.flatMap(host => Facts.of(run, state, { host: host.number }).filter(([, text]) => /registered/.test(text)));
+            const told = new Map(facts.map(([pmac, text]) => [pmac, text.split(", ").pop()]));
+            assert.deepEqual(new Set(told.keys()), new Set(live.keys()), what);
+            for (const [pmac, granted] of live) {
+                const number = learnt.get(pmac);
+                assert.equal(told.get(pmac), number ? `registered as ${number}` : "not registered", `${what}: ${pmac}`);
+                const { entries, note } = rows.get(granted);
+                assert.deepEqual([entries.slice(1).map(([word]) => word), note], number ? [[`as ${number}`], ""] : [[], "not registered"], `${what}: ${pmac}`);
+            }
+        }
+    }
+    assert(forgotten > 15, `${forgotten}`);
+};
+
+// What was known of an address at a restart is found, and nothing is gone through for it: neither its registrations nor the restarts.
+const an_address_of_many_restarts_is_looked_up = () => {
+    const topology = 'k = 4\n[[host]]\nname = "a"\nmac = "02:00:00:00:00:0a"\nip = "10.0.0.1"\nedge = "e0.0"\nport = 0\n';
+    const [pmac, many] = ["00:00:00:00:00:01", 20000];
+    const restarts = Array.from({ length: many }, (_, n) => `restarted ${n + 1}\nregistered ${pmac} ${(n + 1) * 2 ** 32 + 1}\n`);
+    const run = openTexts(topology, `granted ${pmac} a e0.0 0\nregistered ${pmac} 1\n${restarts.join("")}`);
+    const known = Knowledge.of(run);
+    const begun = performance.now();
+    for (let now = 2; now <= run.count; now++) {
+        const registered = now % 2 === 0 ? 1 : 0;
+        assert.equal(Knowledge.summary(known, "addresses", now), `1 granted, ${registered} registered, 0 freed`);
+    }
+    assert(performance.now() - begun < 2000 * patience(), `${performance.now() - begun} milliseconds`);
+};
+
+// The newer address of a host is the one that it was granted later. The manager goes by the order in which it learnt them, which behind a
+// restart is that of the reports; and one behind which another rested is of the same port.
+const an_address_to_which_a_frame_goes_on_is_newer_where_it_was_granted_later = () => {
+    const { folder } = open("tests/restart/before-a-move-was-told");
+    const topology = fs.readFileSync(path.join(folder, "topology.toml"), "utf8");
+    const [old, now, third] = ["00:01:00:00:00:01", "00:00:01:01:00:01", "00:00:01:01:00:02"];
+    const sent = (n, to) => `sent ${n} a ${to.replace(/:/g, "")}02000000000a88b6${"00".repeat(46)}\n`;
+    const run = openTexts(topology, `granted ${old} d e1.0 0\nmoved d e0.1 1\ngranted ${now} d e0.1 1\nrestarted 1\nregistered ${now} 4294967297\n`
+        + `registered ${old} 4294967298\n${sent(1, now)}redirected 1 ${now} ${old}\ngranted ${third} d e0.1 1\n${sent(2, old)}redirected 2 ${old} ${third}\n`
+        + `${sent(3, now)}redirected 3 ${now} ${third}\n`);
+    const said = Array.from({ length: run.count }, (_, n) => n).filter(n => run.kind[n] === Journal.KIND.redirected).map(n => Words.sentence(run, n));
+    assert.deepEqual(said, [
+        `The fabric manager took an earlier address of host d for the newer one: frame 1, for ${now}, goes on to ${old} (pod 1, position 0, port 0, number 1).`,
+        `Host d has moved on: frame 2, for ${old}, goes on to its newer address ${third} (pod 0, position 1, port 1, number 2).`,
+        `Host d has a newer address at the same port: frame 3, for ${now}, goes on to ${third} (pod 0, position 1, port 1, number 2).`,
+    ]);
+};
+
+// Behind a restart a switch knows no part of a tree and avoids nothing until it is told anew, which is a reason for these causes alone.
+const behind_a_restart_it_is_to_be_looked_at = () => {
+    const { run, journal } = open("tests/restart/random-07");
+    const lines = journal.split("\n");
+    const restart = lines.findIndex(line => line.startsWith("restarted ")) + 1;
+    const looks = lines.flatMap((line, n) => (line.startsWith("dropped ") ? [[n + 1, line.split(" ")[2], Rules.look(run, n)]] : []));
+    const behind = looks.filter(([line]) => line > restart);
+    assert(behind.some(([, cause]) => cause === "NoMember") && behind.some(([, cause]) => cause === "HostGone"));
+    for (const [line, cause, look] of looks) {
+        const wanted = line > restart && ["NoNextHop", "NoMember"].includes(cause);
+        assert.equal(look.endsWith(` The fabric manager restarted by entry ${restart}: a switch that has heard of it avoids nothing and knows no part of a tree `
+            + "until it is told anew."), wanted, `line ${line}: ${look}`);
+    }
+};
+
 const loads_are_the_crossings = () => {
     for (const folder of folders()) {
         const { run, states, journal } = open(folder);
@@ -205,6 +308,8 @@ const a_link_names_a_moment = () => {
 
 module.exports = {
     the_rule_of_an_entry_is_that_of_the_table, a_copy_that_comes_back_says_why_it_ends, what_aging_restarts_and_bridges_bring_is_said,
-    a_flood_of_a_bridge_is_told, each_entry_of_a_bridge_has_its_rule, bridges_have_no_places, the_second_run_is_in_step_by_line, what_is_known_is_what_has_happened, loads_are_the_crossings,
+    a_flood_of_a_bridge_is_told, each_entry_of_a_bridge_has_its_rule, bridges_have_no_places, the_second_run_is_in_step_by_line, what_is_known_is_what_has_happened,
+    what_the_manager_knows_goes_with_a_restart, an_address_of_many_restarts_is_looked_up,
+    an_address_to_which_a_frame_goes_on_is_newer_where_it_was_granted_later, behind_a_restart_it_is_to_be_looked_at, loads_are_the_crossings,
     the_chart_counts_what_the_summary_counts, a_link_names_a_moment,
 };

@@ -29,6 +29,7 @@ const SENTENCES = [
     ["tests/fabric/group", 133, "Frame 20 ends after switch e0.0, which it crossed last: NoMember, nobody is reached there who has joined its group."],
     ["tests/fabric/move-twice", 96, "Host d moves to port 1 of e0.1."],
     ["tests/fabric/move-twice", 131, "Host d has moved on: frame 18, for 00:01:00:00:00:01, goes on to its newer address 00:01:00:01:00:01 (pod 1, position 0, port 1, number 1)."],
+    ["tests/fabric/move-twice", 132, "The fabric manager took an earlier address of host d for the newer one: frame 18, for 00:01:00:01:00:01, goes on to 00:00:01:01:00:01 (pod 0, position 1, port 1, number 1)."],
     ["tests/fabric/move-twice", 133, "Frame 18 starts anew at e1.0, for its new address."],
 ];
 

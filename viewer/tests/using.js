@@ -43,6 +43,58 @@ const a_log_is_opened = async browser => {
     }
 };
 
+// In the log of a restart its event stands before the entry, is drawn nowhere, and is stepped over both ways.
+const a_log_with_a_restart_is_opened = async browser => {
+    const folder = path.join(top, "examples/manager-restarts");
+    const stored = fs.readFileSync(path.join(folder, "expected/journal.txt"), "utf8");
+    const event = stored.split("\n").indexOf("restarted 1") + 1;
+    const log = path.join(work, "log.txt");
+    fs.writeFileSync(log, stored.replace("restarted 1\n", "@ 2568 restart\nrestarted 1\n"));
+    const opens = [path.join(folder, "topology.toml"), log, path.join(folder, "script")];
+    const [topology, journal, text] = opens.map(file => new Uint8Array(fs.readFileSync(file)));
+    const { run, script, states } = Files.runOf({ topology, journal, script: text });
+    await browser.open(PAGE, `#entry=${event - 1}`);
+    await browser.choose(opens);
+    await browser.until(isOpen(stored.split("\n").length));
+    await browser.press("ArrowRight");
+    await says(browser, { run, script, states }, event);
+    assert.equal(await browser.text("said"), "The fabric manager restarts.");
+    await browser.press("o");
+    await browser.press("+");
+    await browser.press("ArrowRight");
+    await says(browser, { run, script, states }, event + 1);
+    await browser.press("ArrowLeft");
+    await browser.press("0");
+    await says(browser, { run, script, states }, event);
+    await browser.press("End");
+    await says(browser, { run, script, states }, run.count);
+};
+
+// Behind a restart no address is registered, in the list of the fabric and in a host's story, until the manager has learnt it anew.
+const what_the_manager_knows_goes_with_a_restart = async browser => {
+    const run = await opened(browser, "tests/restart/before-a-move-was-told");
+    const lines = run.journal.split("\n");
+    const restart = lines.indexOf("restarted 1") + 1;
+    const anew = lines.indexOf("registered 00:00:00:00:00:01 4294967297") + 1;
+    await browser.clickOn("#find");
+    await browser.write("a");
+    await browser.press("Enter");
+    await browser.clickOn("#tab-fabric");
+    await browser.value("(() => { const e = document.getElementById('knowledge'); e.value = 'addresses'; e.dispatchEvent(new Event('change')); })()");
+    const shown = async entry => {
+        await browser.value(`Page.step(${entry})`);
+        const row = await browser.value("document.querySelector('#table .row').lastChild.textContent.trim()");
+        const fact = await browser.value("[...document.querySelectorAll('#facts td')].map(cell => cell.textContent.trim()).find(text => /registered/.test(text))");
+        return [await browser.text("known"), row, fact];
+    };
+    for (const [entry, ...wanted] of [
+        [restart - 1, "5 granted, 4 registered, 0 freed", "granted 10 as 1 12", "port 0 of e0.0, registered as 1"],
+        [restart, "5 granted, 0 registered, 0 freed", "granted 10 not registered", "port 0 of e0.0, not registered"],
+        [anew, "5 granted, 1 registered, 0 freed", `granted 10 as 4294967297 ${anew}`, "port 0 of e0.0, registered as 4294967297"],
+        [restart, "5 granted, 0 registered, 0 freed", "granted 10 not registered", "port 0 of e0.0, not registered"],
+    ]) assert.deepEqual(await shown(entry), wanted, `entry ${entry}`);
+};
+
 const a_packed_run_plays_to_its_end = async browser => {
     const run = await packed(browser, "examples/host-moves-twice");
     assert((await browser.text("opened")).startsWith("host-moves-twice: k 4, 20 switches, 4 hosts, "));
@@ -195,7 +247,7 @@ const the_dark_page_works_too = async browser => {
 };
 
 module.exports = {
-    a_log_is_opened,
+    a_log_is_opened, a_log_with_a_restart_is_opened, what_the_manager_knows_goes_with_a_restart,
     a_run_is_opened_and_stepped_through, a_packed_run_plays_to_its_end, a_folder_is_dropped, a_folder_is_opened,
     a_frame_is_followed, a_click_shows_a_story, lines_of_the_script_are_gone_to, what_is_refused_is_told_with_its_line,
     each_example_opens_and_ends_as_its_summary_says, a_million_lines_open_within_five_seconds_and_are_stepped_at_once, the_dark_page_works_too,

@@ -173,8 +173,8 @@ class State:
         self.failed = set()  # of links, each by its two ends in both orders
         self.spots = {host.name: (host.edge, host.port) for host in fabric.hosts}
         self.granted = {}  # for each pseudo address that is live the host, the edge switch and the port that it was granted for
-        self.addresses = {host.name: [] for host in fabric.hosts}  # for each host its registered ones, the newest last
-        self.is_settled = False  # as of the last `settle` line, and no link failed or host moved since
+        self.addresses = {host.name: [] for host in fabric.hosts}  # for each host those that the manager knows, the newest last
+        self.is_settled = False  # as of the last `settle` line, and no link failed, host moved or manager began anew since
 
     def read(self, entry):
         kind = entry.kind
@@ -196,9 +196,12 @@ class State:
             self.failed |= {(entry.a, entry.b), (entry.b, entry.a)}
         elif kind == "linkup":
             self.failed -= {(entry.a, entry.b), (entry.b, entry.a)}
+        elif kind == "restarted":
+            # the manager knows nothing; switches keep their places and what they granted
+            self.addresses = {host: [] for host in self.addresses}
         if kind in ("settled", "unsettled"):
             self.is_settled = kind == "settled"
-        elif kind in ("moved", "linkdown", "linkup"):
+        elif kind in ("moved", "linkdown", "linkup", "restarted"):
             self.is_settled = False
 
 

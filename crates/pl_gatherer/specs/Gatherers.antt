@@ -20,6 +20,6 @@ gathering many epoch begun ended kept =
 abbrev pub at_first : ℕ → Gathering
 at_first many = record { many = many; epoch = 0; begun = []; ended = []; kept = []; known = tt }
 
--- a report of this time ends that began, has not ended and was missing
+-- a report of this epoch ends that began, has not ended and was missing
 abbrev pub ends_now : Gathering → SwitchId → ℕ → Bool
 ends_now g s epoch = not (is_whole g) && (epoch == g.epoch) && is_among s g.begun && not (is_among s g.ended)

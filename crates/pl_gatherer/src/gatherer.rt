@@ -1,14 +1,15 @@
-ghost use Rattle.std.specs.Prelude.{◌≡◌, [], if◌then◌else◌, map, IfOk, OnErr, OnOk, length, reverse};
+ghost use Rattle.std.specs.Prelude.{◌≡◌, [], if◌then◌else◌, map, IfOk, OnErr, OnOk, length};
 ghost use Rattle.pl_gathering.specs.Gathering.{hears_begin, is_among, is_whole, keeps_word, restarted, with_ended};
 ghost use Rattle.pl_gatherer.specs.Gatherers.{at_first, ends_now, heard_of};
 
 use crate::Kept;
+use indexmap::IndexSet;
 use pl_frame::SwitchId;
 use pl_node::{Memory, ToManager};
 use std::alloc::Global;
 use std::marker::Model;
 
-/// How often a manager began anew, the switches whose report of this time it heard begin, and end, and what it
+/// How often a manager began anew, the switches whose report of this epoch it heard begin, and end, and what it
 /// keeps. Contracts see each list of switches with the newest first, and the words in the order of hearing.
 #[derive(Debug, Drop)]
 pub struct Gatherer {
@@ -16,8 +17,8 @@ pub struct Gatherer {
     // So many switches the tree has.
     many: usize,
     epoch: u32,
-    begun: Vec<SwitchId>,
-    ended: Vec<SwitchId>,
+    begun: IndexSet<SwitchId>,
+    ended: IndexSet<SwitchId>,
     kept: Vec<Kept>,
 }
 
@@ -26,7 +27,7 @@ impl Model for Gatherer {
 
     ghost Value = { Gathering };
 
-    ghost view = { λ g. gathering g.many g.epoch g.begun.items g.ended.items g.kept.items };
+    ghost view = { λ g. gathering g.many g.epoch g.begun.keys g.ended.keys g.kept.items };
 }
 
 impl Gatherer {
@@ -38,20 +39,20 @@ impl Gatherer {
             alloc,
             many,
             epoch: 0,
-            begun: Vec::new(alloc),
-            ended: Vec::new(alloc),
+            begun: IndexSet::new(alloc),
+            ended: IndexSet::new(alloc),
             kept: Vec::new(alloc),
         }
     }
 
-    /// The manager begins anew, for the time of this number.
+    /// The manager begins anew, for this epoch.
     pub fn restart(&mut self, epoch: u32)
         ensures { self.new ≡ restarted tt epoch self.old }
     {
         self.epoch = epoch;
-        self.begun = Vec::new(self.alloc);
-        self.ended = Vec::new(self.alloc);
-        self.kept = Vec::new(self.alloc);
+        self.begun.clear();
+        self.ended.clear();
+        self.kept.clear();
     }
 
     /// How often it began anew.
@@ -61,7 +62,7 @@ impl Gatherer {
         self.epoch
     }
 
-    /// How many reports of this time have ended.
+    /// How many reports of this epoch have ended.
     pub fn reported(&self) -> usize
         ensures { result ≡ length self.now.ended }
     {
@@ -75,15 +76,15 @@ impl Gatherer {
         self.epoch == 0 || self.many <= self.ended.len()
     }
 
-    /// A report begins. One of another time, a second one, and one of which none is missing change nothing.
+    /// A report begins. One of another epoch, a second one, and one of which none is missing change nothing.
     pub fn begin(&mut self, switch: SwitchId, epoch: u32) -> Result<(), Memory>
         ensures begun { OnOk result (self.new ≡ hears_begin self.old switch epoch) }
         ensures err { OnErr result (self.new ≡ self.old) }
     {
-        if self.is_whole() || epoch != self.epoch || is_among(&self.begun, switch) {
+        if self.is_whole() || epoch != self.epoch || self.has_begun(switch) {
             return Ok(());
         }
-        self.begun.push(switch)?;
+        self.begun.insert(switch)?;
         Ok(())
     }
 
@@ -96,17 +97,14 @@ impl Gatherer {
         if !self.ends_now(switch, epoch) {
             return Ok(false);
         }
-        self.ended.push(switch)?;
+        self.ended.insert(switch)?;
         Ok(true)
     }
 
     fn ends_now(&self, switch: SwitchId, epoch: u32) -> bool
         ensures { result ≡ ends_now self.now switch epoch }
     {
-        !self.is_whole()
-            && epoch == self.epoch
-            && is_among(&self.begun, switch)
-            && !is_among(&self.ended, switch)
+        !self.is_whole() && epoch == self.epoch && self.has_begun(switch) && !self.has_ended(switch)
     }
 
     /// A word that comes while a report is missing is kept, where that of its switch has begun.
@@ -114,7 +112,7 @@ impl Gatherer {
         ensures kept { OnOk result (self.new ≡ keeps_word self.old switch word) }
         ensures err { OnErr result (self.new ≡ self.old) }
     {
-        if is_among(&self.begun, switch) {
+        if self.has_begun(switch) {
             self.kept.push(Kept { switch, word })?;
         }
         Ok(())
@@ -128,10 +126,16 @@ impl Gatherer {
         let none = Vec::new(self.alloc);
         std::mem::replace(&mut self.kept, none)
     }
-}
 
-fn is_among(switches: &[SwitchId], switch: SwitchId) -> bool
-    ensures { result ≡ is_among switch (reverse switches.now) }
-{
-    switches.iter().rev().any(|known| known.0 == switch.0)
+    fn has_begun(&self, switch: SwitchId) -> bool
+        ensures { result ≡ is_among switch self.now.begun }
+    {
+        self.begun.contains(&switch)
+    }
+
+    fn has_ended(&self, switch: SwitchId) -> bool
+        ensures { result ≡ is_among switch self.now.ended }
+    {
+        self.ended.contains(&switch)
+    }
 }

@@ -1,6 +1,6 @@
 -- Addresses by what finds them.
-use Rattle.std.proofs.Common.{◌≡◌, ◌+◌, ◌&&◌, ◌||◌, not, ℕ, Bool, true, false, cond, List, [], ◌∷◌, ◌++◌, length, map, reverse, Option, Some, None, is_none, is_some, filter, refl, sym, ap, ◌∙◌, subst}
-use Rattle.std.specs.List.{AllByRecursion, IsDistinct, find, list_any}
+use Rattle.std.proofs.Common.{◌≡◌, ◌&&◌, ◌||◌, not, ℕ, Bool, true, false, cond, List, [], ◌∷◌, ◌++◌, length, map, reverse, Option, Some, None, is_none, is_some, filter, refl, sym, ap, ◌∙◌, subst}
+use Rattle.std.specs.List.{IsDistinct, find, list_any}
 use Rattle.std.specs.Option.{option_and_then, option_map, option_or}
 use Rattle.std.specs.Map.{keys_of, lookup, remove_entry, values_of}
 use Rattle.std.proofs.lemmas.Bool.{and_parts, false≢true, or_right}
@@ -13,7 +13,6 @@ use Rattle.indexmap.proofs.ReorderLemmas.{map-reverse}
 use Rattle.pl_lemmas.proofs.Exports.{is_some-option_map, none_of, option_map_some, option_or_none}
 use Rattle.pl_frame.specs.declared.address.Mac.{Mac}
 use Rattle.pl_pmac.specs.declared.pmac.Pmac.{Pmac}
-use Rattle.pl_pmac.specs.contracts.pmac.PmacPartialEq.TheImpl.{eq-value}
 use Rattle.pl_layouts.specs.Equality.{same_mac, same_pmac}
 use Rattle.pl_layouts.proofs.Exports.{mac_is, pmac_is, pmac_itself}
 use Rattle.pl_node.specs.ManagerViews.{LearntAddress, Registration, is_newest_of, is_trapped_to, newest, registered_as}
@@ -24,8 +23,8 @@ use Rattle.pl_registry.specs.declared.addresses.Known.{Known}
 use Rattle.pl_registry.specs.declared.addresses.Recall.{Recall}
 use Rattle.pl_registry.specs.declared.addresses.Registered.{Registered}
 use Rattle.pl_registry.specs.declared.addresses.Told.{Told}
-use Rattle.pl_registry.specs.Addresses.{FindAddresses, IsLedFrom, is_known_trapped_to, leading, learnt_at, learnt_of, newest_first, recall_of, registration_of, told_at, was_newest_of, with_address_as}
-use Rattle.pl_registry.proofs.Keys.{keys_are}
+use Rattle.pl_registry.specs.Addresses.{FindAddresses, IsLedFrom, is_trap_to, leading, learnt_at, learnt_of, newest_first, recall_of, registration_of, told_at, was_newest_of, with_address_as}
+use Rattle.pl_registry.proofs.Entries.{ChangesTo, absent, list_without, none_left, nothing_changed, one_changed, put_last}
 
 -- one that is found is among them, and the other way round
 any_found : {X : Type 0} (test : X → Bool) (xs : List X) → list_any test xs ≡ is_some (find test xs)
@@ -48,25 +47,6 @@ Latest = List (Mac × Registered)
 
 abbrev pub learnt_entry : Pmac × Known → LearntAddress
 learnt_entry e = learnt_at e.0 e.1
-
--- how the table compares its keys
-pub looked_up : (x : Pmac) (known : Table) → lookup (eq-value.it x) known ≡ lookup (same_pmac x) known
-looked_up x known = ap (λ same. lookup (same x) known) keys_are
-
-pub put_in : (x : Pmac) (told : Known) (known : Table) → insert_entry eq-value.it known x told ≡ insert_entry same_pmac known x told
-put_in x told known = ap (λ same. insert_entry same known x told) keys_are
-
-pub taken_out : (x : Pmac) (known : Table) → remove_entry (eq-value.it x) known ≡ remove_entry (same_pmac x) known
-taken_out x known = ap (λ same. remove_entry (same x) known) keys_are
-
-pub each_once : (known : Table) → IsDistinct eq-value.it (keys_of known) → IsDistinct same_pmac (keys_of known)
-each_once known once = subst (λ (same : Pmac → Pmac → Bool). IsDistinct same (keys_of known)) keys_are once
-
--- ---- a table whose keys are there once each
--- a key that is not there
-absent : (x : Pmac) (es : Table) → AllByRecursion (λ k. same_pmac x k ≡ false) (keys_of es) → lookup (same_pmac x) es ≡ None
-absent x [] all = refl
-absent x (e ∷ es) all = ap (λ b. cond b (Some e.1) (lookup (same_pmac x) es)) all.0 ∙ absent x es all.1
 
 find_push : {X : Type 0} (test : X → Bool) (xs : List X) (x : X) → find test (xs ++ x ∷ []) ≡ option_or (find test xs) (cond (test x) (Some x) None)
 find_push test [] x = refl
@@ -137,30 +117,17 @@ host_found known x once =
     by (Some k) = refl
 
 -- ---- a new address
-put_last : (x : Pmac) (told : Known) (es : Table) → lookup (same_pmac x) es ≡ None → insert_entry same_pmac es x told ≡ es ++ (x, told) ∷ []
-put_last x told [] h = refl
-put_last x told (e ∷ es) h = by (λ j. put_last x told es j) (same_pmac x e.0) h
-  where
-    by : (lookup (same_pmac x) es ≡ None → insert_entry same_pmac es x told ≡ es ++ (x, told) ∷ []) → (b : Bool) →
-        cond b (Some e.1) (lookup (same_pmac x) es) ≡ None → cond b ((e.0, told) ∷ es) (e ∷ insert_entry same_pmac es x told) ≡ (e ∷ es) ++ (x, told) ∷ []
-    by rest true j = absurd (cc)
-    by rest false j = ap (λ fs. e ∷ fs) (rest j)
-
 newest_added : (before after : Table) (x : Pmac) (told : Known) → lookup (same_pmac x) before ≡ None →
     after ≡ insert_entry same_pmac before x told → newest_first after ≡ learnt_at x told ∷ newest_first before
 newest_added before after x told none entries =
     ap newest_first (entries ∙ put_last x told before none) ∙ last_first learnt_entry before (x, told)
 
 -- ---- a change of what is known of one address
-pub record ChangesTo (x : Pmac) (old new : Known) (change : LearntAddress → LearntAddress) : Type 0 where
-  pub same : change (learnt_at x old) ≡ learnt_at x new
-  pub other : (y : Pmac) (k : Known) → same_pmac y x ≡ false → change (learnt_at y k) ≡ learnt_at y k
-
 -- it takes the IPv4 address that is told
 abbrev pub told_ip : Told → Known → Known
 told_ip told known = record known { ip = option_or told.ip known.ip }
 
-told_changes : (x : Pmac) (told : Told) (k : Known) → ChangesTo x k (told_ip told k) (told_again (told_at x told))
+told_changes : (x : Pmac) (told : Told) (k : Known) → ChangesTo learnt_at x k (told_ip told k) (told_again (told_at x told))
 told_changes x told k = record {
   same = λ i. record (learnt_at x k) { ip = cond (pmac_itself x i) (option_or told.ip k.ip) k.ip };
   other = λ y v apart i. record (learnt_at y v) { ip = cond (apart i) (option_or told.ip v.ip) v.ip };
@@ -170,59 +137,29 @@ told_changes x told k = record {
 abbrev pub led_to : Recall → Known → Known
 led_to to known = record known { recall = Some to; aged = false }
 
-led_changes : (x : Pmac) (to : Recall) (k : Known) → ChangesTo x k (led_to to k) (leads_on x to.new to.number)
+others_not_led : (x : Pmac) (to : Recall) (y : Pmac) (k : Known) → same_pmac y x ≡ false → leads_on x to.new to.number (learnt_at y k) ≡ learnt_at y k
+others_not_led x to y k apart i = record (learnt_at y k) { recall = cond (apart i) (Some (recall_of to)) (option_map recall_of k.recall); aged = not (apart i) && k.aged }
+
+led_changes : (x : Pmac) (to : Recall) (k : Known) → ChangesTo learnt_at x k (led_to to k) (leads_on x to.new to.number)
 led_changes x to k = record {
   same = λ i. record (learnt_at x k) { recall = cond (pmac_itself x i) (Some (recall_of to)) (option_map recall_of k.recall); aged = not (pmac_itself x i) && k.aged };
-  other = λ y v apart i. record (learnt_at y v) { recall = cond (apart i) (Some (recall_of to)) (option_map recall_of v.recall); aged = not (apart i) && v.aged };
+  other = others_not_led x to;
 }
 
 -- it has aged
 abbrev pub aged_known : Known → Known
 aged_known known = record known { aged = true }
 
-pub aged_changes : (x : Pmac) (k : Known) → ChangesTo x k (aged_known k) (ages_now x)
-aged_changes x k = record {
-  same = λ i. record (learnt_at x k) { aged = pmac_itself x i || k.aged };
-  other = λ y v apart i. record (learnt_at y v) { aged = apart i || v.aged };
-}
+others_not_aged : (x y : Pmac) (k : Known) → same_pmac y x ≡ false → ages_now x (learnt_at y k) ≡ learnt_at y k
+others_not_aged x y k apart i = record (learnt_at y k) { aged = apart i || k.aged }
 
-module _ (x : Pmac) (old new : Known) (change : LearntAddress → LearntAddress) (changes : ChangesTo x old new change) where
-  others_stay : (es : Table) → AllByRecursion (λ y. same_pmac x y ≡ false) (keys_of es) → map change (map learnt_entry es) ≡ map learnt_entry es
-  others_stay [] all = refl
-  others_stay (e ∷ es) all = λ i. changes.other e.0 e.1 (pmac_turned e.0 x ∙ all.0) i ∷ others_stay es all.1 i
+aged_changes : (x : Pmac) (k : Known) → ChangesTo learnt_at x k (aged_known k) (ages_now x)
+aged_changes x k = record { same = λ i. record (learnt_at x k) { aged = pmac_itself x i || k.aged }; other = others_not_aged x }
 
-  in_table : (es : Table) → IsDistinct same_pmac (keys_of es) → lookup (same_pmac x) es ≡ Some old →
-      map learnt_entry (insert_entry same_pmac es x new) ≡ map change (map learnt_entry es)
-  unfolding IsDistinct
-  in_table [] once h = let none : None ≡ Some old = h in absurd (cc)
-  in_table (e ∷ es) once h = by (λ j. in_table es once.1 j) (same_pmac x e.0) refl h
-    where
-      by : (lookup (same_pmac x) es ≡ Some old → map learnt_entry (insert_entry same_pmac es x new) ≡ map change (map learnt_entry es)) →
-          (b : Bool) → same_pmac x e.0 ≡ b → cond b (Some e.1) (lookup (same_pmac x) es) ≡ Some old →
-          map learnt_entry (cond b ((e.0, new) ∷ es) (e ∷ insert_entry same_pmac es x new)) ≡ map change (map learnt_entry (e ∷ es))
-      by rest true same j =
-          let value : e.1 ≡ old = cc in
-          let key : e.0 ≡ x = sym (pmac_is x e.0 same) in
-          let others : AllByRecursion (λ y. same_pmac x y ≡ false) (keys_of es) = subst (λ z. AllByRecursion (λ y. same_pmac z y ≡ false) (keys_of es)) key once.0 in
-          let here : change (learnt_at e.0 e.1) ≡ learnt_at e.0 new =
-          (λ i. change (learnt_at (key i) (value i))) ∙ changes.same ∙ ap (λ z. learnt_at z new) (sym key) in
-          λ i. sym here i ∷ sym (others_stay es others) i
-      by rest false same j = λ i. sym (changes.other e.0 e.1 (pmac_turned e.0 x ∙ same)) i ∷ rest j i
-
-  pub list_changed : (known : Table) → IsDistinct same_pmac (keys_of known) → lookup (same_pmac x) known ≡ Some old →
-      newest_first (insert_entry same_pmac known x new) ≡ map change (newest_first known)
-  list_changed known once there = ap reverse (in_table known once there) ∙ sym (map-reverse change (map learnt_entry known))
-
--- where it is not there, nothing changes
-nothing_led : (x : Pmac) (to : Recall) (es : Table) → lookup (same_pmac x) es ≡ None → map learnt_entry es ≡ map (leads_on x to.new to.number) (map learnt_entry es)
-nothing_led x to [] h = refl
-nothing_led x to (e ∷ es) h = by (λ j. nothing_led x to es j) (same_pmac x e.0) refl h
-  where
-    by : (lookup (same_pmac x) es ≡ None → map learnt_entry es ≡ map (leads_on x to.new to.number) (map learnt_entry es)) →
-        (b : Bool) → same_pmac x e.0 ≡ b → cond b (Some e.1) (lookup (same_pmac x) es) ≡ None →
-        map learnt_entry (e ∷ es) ≡ map (leads_on x to.new to.number) (map learnt_entry (e ∷ es))
-    by rest true same j = absurd (cc)
-    by rest false same j = λ i. sym ((led_changes x to e.1).other e.0 e.1 (pmac_turned e.0 x ∙ same)) i ∷ rest j i
+list_changed : (x : Pmac) (old new : Known) (change : LearntAddress → LearntAddress) → ChangesTo learnt_at x old new change → (known : Table) →
+    IsDistinct same_pmac (keys_of known) → lookup (same_pmac x) known ≡ Some old → newest_first (insert_entry same_pmac known x new) ≡ map change (newest_first known)
+list_changed x old new change changes known once there =
+    ap reverse (one_changed learnt_at x change changes.other old new changes.same known once there) ∙ sym (map-reverse change (map learnt_entry known))
 
 -- one leads on, if it is there
 pub led_list : (x : Pmac) (to : Recall) (es : Table) → IsDistinct same_pmac (keys_of es) →
@@ -230,7 +167,7 @@ pub led_list : (x : Pmac) (to : Recall) (es : Table) → IsDistinct same_pmac (k
 led_list x to es once = by (lookup (same_pmac x) es) refl
   where
     by : (o : Option Known) → lookup (same_pmac x) es ≡ o → newest_first (leading x to es o) ≡ map (leads_on x to.new to.number) (newest_first es)
-    by None found = ap reverse (nothing_led x to es found) ∙ sym (map-reverse (leads_on x to.new to.number) (map learnt_entry es))
+    by None found = ap reverse (nothing_changed learnt_at x (leads_on x to.new to.number) (others_not_led x to) es found) ∙ sym (map-reverse (leads_on x to.new to.number) (map learnt_entry es))
     by (Some k) found = list_changed x k (led_to to k) (leads_on x to.new to.number) (led_changes x to k) es once found
 
 -- ---- an address is told again
@@ -278,17 +215,8 @@ module _ (known after : Table) (latest : Latest) (x : Pmac) (k : Known) (found :
   }
 
 -- one of which nothing is known changes nothing
-nothing_aged : (x : Pmac) (es : Table) → lookup (same_pmac x) es ≡ None → map learnt_entry es ≡ map (ages_now x) (map learnt_entry es)
-nothing_aged x [] h = refl
-nothing_aged x (e ∷ es) h = by (λ j. nothing_aged x es j) (same_pmac x e.0) refl h
-  where
-    by : (lookup (same_pmac x) es ≡ None → map learnt_entry es ≡ map (ages_now x) (map learnt_entry es)) →
-        (b : Bool) → same_pmac x e.0 ≡ b → cond b (Some e.1) (lookup (same_pmac x) es) ≡ None → map learnt_entry (e ∷ es) ≡ map (ages_now x) (map learnt_entry (e ∷ es))
-    by rest true same j = absurd (cc)
-    by rest false same j = λ i. sym ((aged_changes x e.1).other e.0 e.1 (pmac_turned e.0 x ∙ same)) i ∷ rest j i
-
 pub none_aged : (x : Pmac) (known : Table) → lookup (same_pmac x) known ≡ None → newest_first known ≡ map (ages_now x) (newest_first known)
-none_aged x known none = ap reverse (nothing_aged x known none) ∙ sym (map-reverse (ages_now x) (map learnt_entry known))
+none_aged x known none = ap reverse (nothing_changed learnt_at x (ages_now x) (others_not_aged x) known none) ∙ sym (map-reverse (ages_now x) (map learnt_entry known))
 
 -- ---- an address is learnt
 found_then_any : {X : Type 0} (p q : X → Bool) (xs : List X) (x : X) → find p xs ≡ Some x → q x ≡ true → list_any q xs ≡ true
@@ -369,29 +297,6 @@ module _ (number : ℕ) (known put after : Table) (latest latest_after : Latest)
             others_recalled (learnt_of (newest_first known)) told.amac x number mac other (listed_once known found.once) ∙ found.newest mac
 
 -- ---- an address is forgotten
-not_there_kept : (x : Pmac) (es : Table) → AllByRecursion (λ y. same_pmac x y ≡ false) (keys_of es) →
-    filter (λ a. not (same_pmac a.pmac x)) (map learnt_entry es) ≡ map learnt_entry es
-not_there_kept x [] all = refl
-not_there_kept x (e ∷ es) all =
-    let left : List LearntAddress = filter (λ a. not (same_pmac a.pmac x)) (map learnt_entry es) in
-    ap (λ b. cond (not b) (learnt_entry e ∷ left) left) (pmac_turned e.0 x ∙ all.0) ∙ ap (λ ls. learnt_entry e ∷ ls) (not_there_kept x es all.1)
-
-list_without : (x : Pmac) (es : Table) → IsDistinct same_pmac (keys_of es) →
-    map learnt_entry (remove_entry (same_pmac x) es) ≡ filter (λ a. not (same_pmac a.pmac x)) (map learnt_entry es)
-unfolding IsDistinct
-list_without x [] once = refl
-list_without x (e ∷ es) once = by (list_without x es once.1) (same_pmac x e.0) refl
-  where
-    left : List LearntAddress
-    left = filter (λ a. not (same_pmac a.pmac x)) (map learnt_entry es)
-
-    by : map learnt_entry (remove_entry (same_pmac x) es) ≡ left → (b : Bool) → same_pmac x e.0 ≡ b →
-        map learnt_entry (cond b es (e ∷ remove_entry (same_pmac x) es)) ≡ cond (not (same_pmac e.0 x)) (learnt_entry e ∷ left) left
-    by rest true same =
-        sym (not_there_kept x es (subst (λ z. AllByRecursion (λ y. same_pmac z y ≡ false) (keys_of es)) (sym (pmac_is x e.0 same)) once.0))
-        ∙ sym (ap (λ b. cond (not b) (learnt_entry e ∷ left) left) (pmac_turned e.0 x ∙ same))
-    by rest false other = ap (λ ls. learnt_entry e ∷ ls) rest ∙ sym (ap (λ b. cond (not b) (learnt_entry e ∷ left) left) (pmac_turned e.0 x ∙ other))
-
 filter_push : {X : Type 0} (q : X → Bool) (xs : List X) (x : X) → filter q (xs ++ x ∷ []) ≡ filter q xs ++ cond (q x) (x ∷ []) []
 filter_push q [] x = refl
 filter_push q (y ∷ xs) x = by (q y) (filter_push q xs x)
@@ -442,7 +347,7 @@ alone_is mac x (c ∷ list) a alone there passes = by (λ k. alone_is mac x list
 pub is_forgotten : (known after : Table) (x : Pmac) → IsDistinct same_pmac (keys_of known) → after ≡ remove_entry (same_pmac x) known →
     newest_first after ≡ filter (λ a. not (same_pmac a.pmac x)) (newest_first known)
 is_forgotten known after x once entries =
-    ap newest_first entries ∙ ap reverse (list_without x known once) ∙ sym (filter_reversed (λ (a : LearntAddress). not (same_pmac a.pmac x)) (map learnt_entry known))
+    ap newest_first entries ∙ ap reverse (list_without learnt_at (λ a. a.pmac) (λ y k. refl) x known once) ∙ sym (filter_reversed (λ (a : LearntAddress). not (same_pmac a.pmac x)) (map learnt_entry known))
 
 module _ (known after : Table) (latest latest_after : Latest) (x : Pmac) (k : Known) (found : FindAddresses known latest)
     (there : lookup (same_pmac x) known ≡ Some k) (entries : after ≡ remove_entry (same_pmac x) known) where
@@ -494,15 +399,6 @@ module _ (known after : Table) (latest latest_after : Latest) (x : Pmac) (k : Kn
       of_table true o = refl
       of_table false o = refl
 
-none_left : (x : Pmac) (es : Table) → lookup (same_pmac x) es ≡ None → remove_entry (same_pmac x) es ≡ es
-none_left x [] none = refl
-none_left x (e ∷ es) none = by (same_pmac x e.0) (none_left x es) none
-  where
-    by : (b : Bool) → (lookup (same_pmac x) es ≡ None → remove_entry (same_pmac x) es ≡ es) → cond b (Some e.1) (lookup (same_pmac x) es) ≡ None →
-        cond b es (e ∷ remove_entry (same_pmac x) es) ≡ e ∷ es
-    by true rest is = absurd (none-some e.1 (sym is))
-    by false rest is = ap (λ left. e ∷ left) (rest is)
-
 leads_nowhere : (o : Option Recall) → is_none o ≡ is_none (option_map recall_of o)
 leads_nowhere None = refl
 leads_nowhere (Some recall) = refl
@@ -533,8 +429,8 @@ any_push q (y ∷ xs) x = ap (λ b. q y || b) (any_push q xs x) ∙ turn (q y) (
     turn false b c = refl
 
 -- one that leads to this address is in the list where it is in the table
-pub trapped_listed : (x : Pmac) (known : Table) → list_any (is_known_trapped_to x) (values_of known) ≡ list_any (is_trapped_to x) (newest_first known)
+pub trapped_listed : (x : Pmac) (known : Table) → list_any (λ k. is_trap_to x k.recall k.aged) (values_of known) ≡ list_any (is_trapped_to x) (newest_first known)
 trapped_listed x [] = refl
 trapped_listed x (e ∷ es) =
-    ap (λ b. is_known_trapped_to x e.1 || b) (trapped_listed x es) ∙ sym (any_push (is_trapped_to x) (newest_first es) (learnt_entry e))
+    ap (λ b. is_trap_to x e.1.recall e.1.aged || b) (trapped_listed x es) ∙ sym (any_push (is_trapped_to x) (newest_first es) (learnt_entry e))
     ∙ sym (ap (list_any (is_trapped_to x)) (reverse-append (learnt_entry e ∷ []) (map learnt_entry es)))

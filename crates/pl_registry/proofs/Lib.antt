@@ -4,5 +4,6 @@ pub mod Telling
 pub mod Finding
 pub mod Counting
 pub mod Releasing
-pub mod InPlace
+pub mod Entries
+pub mod Reporting
 pub mod Asking

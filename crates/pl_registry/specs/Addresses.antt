@@ -72,9 +72,9 @@ with_address_as number learnt new =
     if is_registered learnt.addresses new.pmac then map (told_again new) learnt.addresses
     else learnt_as number new ∷ recalled (newest learnt new.amac) new.pmac number learnt.addresses
 
--- a trap stands for an address of which this is known, and leads to that one
-abbrev pub is_known_trapped_to : Pmac → Known → Bool
-is_known_trapped_to x known = not known.aged && manager.leads_to x (option_map recall_of known.recall)
+-- an address that leads there, and has aged or not, has a trap that stands and leads to this one
+abbrev pub is_trap_to : Pmac → Option Recall → Bool → Bool
+is_trap_to x recall aged = not aged && manager.leads_to x (option_map recall_of recall)
 
 -- an address of which this was known was the newest one of this host
 abbrev pub was_newest_of : Mac → Option Known → Bool

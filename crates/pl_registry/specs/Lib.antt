@@ -1,5 +1,5 @@
 pub mod Owners
 pub mod Addresses
-pub mod Reports
+pub mod ReportedAddresses
 pub mod Learning
 pub mod Askers

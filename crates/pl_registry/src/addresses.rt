@@ -7,7 +7,7 @@ ghost use Rattle.pl_frame.specs.declared.address.Mac.{Mac};
 ghost use Rattle.pl_layouts.specs.Equality.{same_mac, same_pmac};
 ghost use Rattle.pl_node.specs.ManagerViews.{is_led_to, newest, registration};
 ghost use Rattle.pl_manager_rule.specs.ManagerRule.{ages_now, is_registered, learnt_as, recalled};
-ghost use Rattle.pl_registry.specs.Addresses.{IsLed, IsLedFrom, is_known_trapped_to, learnt_at, learnt_of, registration_of, told_at, was_newest_of, with_address_as};
+ghost use Rattle.pl_registry.specs.Addresses.{IsLed, IsLedFrom, is_trap_to, learnt_at, learnt_of, registration_of, told_at, was_newest_of, with_address_as};
 
 use indexmap::IndexMap;
 use pl_frame::{Ip4, Mac, SwitchId};
@@ -179,7 +179,7 @@ impl Addresses {
     pub(crate) fn is_led_to(&self, pmac: Pmac) -> bool
         ensures { result ≡ is_led_to (learnt_of self.now) pmac }
     {
-        is_any_trapped_to(&self.known, pmac)
+        is_any_trap_to(&self.known, pmac)
     }
 
     /// An address is forgotten. The others stay in their order.
@@ -208,18 +208,20 @@ fn leave_host(newest: &mut IndexMap<Mac, Registered>, known: Known)
     }
 }
 
-fn is_any_trapped_to(known: &IndexMap<Pmac, Known>, pmac: Pmac) -> bool
-    ensures { result ≡ list_any (is_known_trapped_to pmac) (values known.now) }
+fn is_any_trap_to(known: &IndexMap<Pmac, Known>, pmac: Pmac) -> bool
+    ensures { result ≡ list_any (λ k. is_trap_to pmac k.recall k.aged) (values known.now) }
 {
-    known.values().any(|known| is_trapped_to(known, pmac))
+    known
+        .values()
+        .any(|known| is_trap_to(known.recall, known.aged, pmac))
 }
 
-// Whether a trap stands for an address, and leads to this one.
-fn is_trapped_to(known: &Known, pmac: Pmac) -> bool
-    ensures { result ≡ is_known_trapped_to pmac known.now }
+/// Whether an address that leads there, and has aged or not, has a trap that stands and leads to this one.
+pub(crate) fn is_trap_to(recall: Option<Recall>, aged: bool, pmac: Pmac) -> bool
+    ensures { result ≡ is_trap_to pmac recall aged }
 {
-    match known.recall {
-        Some(recall) => !known.aged && recall.new == pmac,
+    match recall {
+        Some(recall) => !aged && recall.new == pmac,
         None => false,
     }
 }

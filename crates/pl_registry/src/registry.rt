@@ -6,13 +6,13 @@ ghost use Rattle.pl_node.specs.ManagerViews.{lookup, number_behind, numbers_befo
 ghost use Rattle.pl_manager_rule.specs.ManagerRule.{invalidation, learning, with_learnt, with_owner};
 ghost use Rattle.pl_manager_rule.specs.Reports.{counts_as, is_known_led_to, known_at, leads_known, releases_known, with_aged_as, with_trap, with_trap_as};
 ghost use Rattle.pl_registry.specs.Addresses.{recall_of, registration_of};
-ghost use Rattle.pl_registry.specs.Reports.{registered_report, reported_of};
+ghost use Rattle.pl_registry.specs.ReportedAddresses.{registered_report, reported_at};
 ghost use Rattle.pl_registry.specs.Learning.{noted_aged, with_known_aged};
 ghost use Rattle.pl_registry.specs.Learning.{acts_of_learning, acts_of_release, acts_of_replaced};
 
 use crate::addresses::{Addresses, Known, Recall, Registered, Told};
 use crate::owners::Owners;
-use crate::reports::{Reported, Reports};
+use crate::reported_addresses::{Reported, ReportedAddresses};
 use pl_frame::{Ip4, Mac, SwitchId};
 use pl_node::Memory;
 use pl_pmac::Pmac;
@@ -28,7 +28,7 @@ const NUMBERS: u64 = 4_294_967_296;
 #[derive(Debug, Drop)]
 pub struct Registry {
     addresses: Addresses,
-    reports: Reports,
+    reported: ReportedAddresses,
     owners: Owners,
     // The number that was given last.
     count: u64,
@@ -63,7 +63,7 @@ impl Model for Registry {
 
     ghost Value = { Learnt };
 
-    ghost view = { λ registry. record { addresses = registry.addresses; reported = registry.reports; owners = registry.owners; count = registry.count } };
+    ghost view = { λ registry. record { addresses = registry.addresses; reported = registry.reported; owners = registry.owners; count = registry.count } };
 }
 
 impl Registry {
@@ -73,7 +73,7 @@ impl Registry {
     {
         Registry {
             addresses: Addresses::new(alloc),
-            reports: Reports::new(alloc),
+            reported: ReportedAddresses::new(alloc),
             owners: Owners::new(alloc),
             count: u64::from(epoch) * NUMBERS,
         }
@@ -150,7 +150,7 @@ impl Registry {
     {
         if counts {
             self.addresses.set_aged(pmac)?;
-            self.reports.set_aged(pmac);
+            self.reported.set_aged(pmac);
         }
         Ok(counts)
     }
@@ -162,16 +162,17 @@ impl Registry {
         pmac: Pmac,
         counts: bool,
     ) -> Result<bool, Memory>
+        requires { known_at self.old pmac ≡ None }
         ensures counts { IfOk result (λ noted. noted ≡ counts) }
         ensures noted { OnOk result (self.new ≡ (if counts then with_aged_as self.old switch pmac None else self.old)) }
     {
         if counts {
-            self.reports.push(Reported {
+            let reported = Reported {
                 switch,
-                pmac,
                 recall: None,
                 aged: true,
-            })?;
+            };
+            self.reported.add(pmac, reported)?;
         }
         Ok(counts)
     }
@@ -197,16 +198,16 @@ impl Registry {
     fn lead_reported(&mut self, switch: SwitchId, old: Pmac, to: Recall) -> Result<(), Memory>
         ensures { OnOk result (self.new ≡ with_trap_as self.old switch old (recall_of to) (find (λ r. same_pmac r.pmac old) self.old.reported)) }
     {
-        if self.reports.find(old).is_some() {
-            self.reports.lead(old, to);
+        if self.reported.find(old).is_some() {
+            self.reported.lead(old, to);
             return Ok(());
         }
-        self.reports.push(Reported {
+        let reported = Reported {
             switch,
-            pmac: old,
             recall: Some(to),
             aged: false,
-        })
+        };
+        self.reported.add(old, reported)
     }
 
     /// Where the trap of an address leads, that stands or has ended.
@@ -225,11 +226,11 @@ impl Registry {
 
     // What is known of an address, registered or by a report alone.
     fn known(&self, pmac: Pmac) -> Option<Reported>
-        ensures { option_map reported_of result ≡ known_at self.now pmac }
+        ensures { option_map (reported_at pmac) result ≡ known_at self.now pmac }
     {
         match self.addresses.known_at(pmac) {
-            Some(known) => Some(as_reported(pmac, known)),
-            None => self.reports.find(pmac),
+            Some(known) => Some(as_reported(known)),
+            None => self.reported.find(pmac),
         }
     }
 
@@ -243,7 +244,7 @@ impl Registry {
             return None;
         }
         self.addresses.forget(pmac);
-        self.reports.forget(pmac);
+        self.reported.forget(pmac);
         Some(Release {
             switch: known.switch,
             pmac,
@@ -260,9 +261,7 @@ impl Registry {
     fn is_led_to(&self, pmac: Pmac) -> bool
         ensures { result ≡ is_known_led_to self.now pmac }
     {
-        let registered = self.addresses.is_led_to(pmac);
-        let reported = self.reports.is_led_to(pmac);
-        registered || reported
+        self.addresses.is_led_to(pmac) || self.reported.is_led_to(pmac)
     }
 
     // The number of the next address.
@@ -299,12 +298,11 @@ impl Registry {
     }
 }
 
-fn as_reported(pmac: Pmac, known: Known) -> Reported
-    ensures { result ≡ registered_report pmac known }
+fn as_reported(known: Known) -> Reported
+    ensures { result ≡ registered_report known }
 {
     Reported {
         switch: known.switch,
-        pmac,
         recall: known.recall,
         aged: known.aged,
     }

@@ -5,7 +5,8 @@ use Rattle.pl_pmac.specs.contracts.pmac.PmacPartialEq.TheImpl.{eq-value}
 use Rattle.pl_layouts.specs.Equality.{same_pmac}
 use Rattle.pl_registry.specs.declared.addresses.Known.{Known}
 use Rattle.pl_registry.specs.Addresses.{leading}
-use Rattle.pl_registry.proofs.Finding.{Table, led_to, looked_up, put_in}
+use Rattle.pl_registry.proofs.Entries.{looked_up, put_in}
+use Rattle.pl_registry.proofs.Finding.{Table, led_to}
 use Rattle.pl_registry.proofs.addresses.lead_on.Goals as goal
 
 pub returns-in_ok-insert-in-Some-clause-led : goal.returns-in_ok-insert-in-Some-clause-led

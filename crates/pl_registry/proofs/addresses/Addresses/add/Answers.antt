@@ -10,7 +10,8 @@ use Rattle.pl_manager_rule.specs.ManagerRule.{is_registered, learnt_as, recalled
 use Rattle.pl_registry.specs.declared.addresses.Registered.{Registered}
 use Rattle.pl_registry.specs.declared.addresses.Told.{Told}
 use Rattle.pl_registry.specs.Addresses.{FindAddresses, IsLedFrom, learnt_of, newest_first, told_at}
-use Rattle.pl_registry.proofs.Finding.{Latest, Table, each_once, found_more, is_added, put_in, unknown_where_not_registered}
+use Rattle.pl_registry.proofs.Entries.{each_once, put_in}
+use Rattle.pl_registry.proofs.Finding.{Latest, Table, found_more, is_added, unknown_where_not_registered}
 use Rattle.pl_registry.proofs.addresses.Addresses.add.Goals as goal
 
 -- what was put into the tables, by what they had before

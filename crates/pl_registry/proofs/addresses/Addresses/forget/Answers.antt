@@ -1,7 +1,8 @@
 use Rattle.std.proofs.Common.{◌∙◌, ap, filter, not, sym}
 use Rattle.pl_layouts.specs.Equality.{same_pmac}
 use Rattle.pl_node.specs.ManagerViews.{LearntAddress}
-use Rattle.pl_registry.proofs.Finding.{Table, each_once, found_left, is_forgotten, looked_up, taken_out}
+use Rattle.pl_registry.proofs.Entries.{each_once, looked_up, taken_out}
+use Rattle.pl_registry.proofs.Finding.{Table, found_left, is_forgotten}
 use Rattle.pl_registry.proofs.addresses.Addresses.forget.Goals as goal
 
 pub invariant_of-self : goal.invariant_of-self

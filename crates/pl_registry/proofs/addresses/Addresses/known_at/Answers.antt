@@ -5,7 +5,8 @@ use Rattle.pl_layouts.specs.Equality.{same_pmac}
 use Rattle.pl_node.specs.ManagerViews.{LearntAddress, Registration, registered_as}
 use Rattle.pl_registry.specs.declared.addresses.Known.{Known}
 use Rattle.pl_registry.specs.Addresses.{learnt_at}
-use Rattle.pl_registry.proofs.Finding.{found_at, host_found, looked_up}
+use Rattle.pl_registry.proofs.Entries.{looked_up}
+use Rattle.pl_registry.proofs.Finding.{found_at, host_found}
 use Rattle.pl_registry.proofs.addresses.Addresses.known_at.Goals as goal
 
 pub returns-clause-address : goal.returns-clause-address

@@ -8,7 +8,8 @@ use Rattle.pl_manager_rule.specs.ManagerRule.{is_registered, learnt_as, recalled
 use Rattle.pl_registry.specs.declared.addresses.Known.{Known}
 use Rattle.pl_registry.specs.declared.addresses.Told.{Told}
 use Rattle.pl_registry.specs.Addresses.{learnt_of, told_at, with_address_as}
-use Rattle.pl_registry.proofs.Finding.{Table, each_once, found_still, is_with_address, looked_up, put_in, registered_where_known, told_ip}
+use Rattle.pl_registry.proofs.Entries.{each_once, looked_up, put_in}
+use Rattle.pl_registry.proofs.Finding.{Table, found_still, is_with_address, registered_where_known, told_ip}
 use Rattle.pl_registry.proofs.addresses.Addresses.learn.Goals as goal
 
 -- the address is told again: how it was found, and the table then

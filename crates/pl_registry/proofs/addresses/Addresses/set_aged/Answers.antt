@@ -4,7 +4,8 @@ use Rattle.indexmap.specs.IndexMap.{insert_entry}
 use Rattle.pl_layouts.specs.Equality.{same_pmac}
 use Rattle.pl_node.specs.ManagerViews.{LearntAddress}
 use Rattle.pl_manager_rule.specs.ManagerRule.{ages_now}
-use Rattle.pl_registry.proofs.Finding.{aged_known, each_once, found_aged, is_aged, looked_up, none_aged, put_in}
+use Rattle.pl_registry.proofs.Entries.{each_once, looked_up, put_in}
+use Rattle.pl_registry.proofs.Finding.{aged_known, found_aged, is_aged, none_aged}
 use Rattle.pl_registry.proofs.addresses.Addresses.set_aged.Goals as goal
 
 there : (c : goal.In_ok-insert-in-Some) → lookup (same_pmac c.args.pmac) c.self.inside.known.entries ≡ Some c.in-Some.known

@@ -4,13 +4,13 @@ use Rattle.std.proofs.lemmas.List.{append-nil}
 use Rattle.pl_wiring.specs.Plan.{Plan}
 use Rattle.pl_journal.specs.declared.entry.Entry.{Entry}
 use Rattle.pl_journal.specs.Text.{words_of}
-use Rattle.pl_watch.specs.declared.look.Look.{Look}
+use Rattle.pl_log_lines.specs.declared.look.Look.{Look}
 use Rattle.pl_watch.specs.Logs.{LogLine, log_text, shown_entry}
 use Rattle.pl_watch.specs.Logs.LogLine.{IsEntry}
-use Rattle.pl_watch.specs.Looks.{is_within, shows_entry}
-use Rattle.pl_watch.specs.Pages.{PageView, Prints}
-use Rattle.pl_watch.specs.Rows.{entry_line}
-use Rattle.pl_watch.proofs.Printing.{prints_nothing}
+use Rattle.pl_log_lines.specs.Looks.{is_within, shows_entry}
+use Rattle.pl_log_lines.specs.Pages.{PageView, Prints}
+use Rattle.pl_log_lines.specs.Rows.{entry_line}
+use Rattle.pl_log_lines.proofs.Exports.{prints_nothing}
 
 module _ (old new : PageView) (plan : Plan) (look : Look) (line : ℕ) (entry : Entry) where
   abbrev shown_if : Bool → List LogLine

@@ -12,13 +12,13 @@ use Rattle.pl_world.specs.Drops.{turn_of, written}
 use Rattle.pl_world.specs.Runs.{Moment}
 use Rattle.pl_world.specs.WorldRule.{WorldStep}
 use Rattle.pl_world.specs.Worlds.{WorldView}
-use Rattle.pl_watch.specs.declared.look.Look.{Look}
+use Rattle.pl_log_lines.specs.declared.look.Look.{Look}
 use Rattle.pl_watch.specs.Logs.{IsLog, LogLine, entries_in, entry_in, entry_lines, event_lines, present_line, said_in, shown_below, shown_entry, step_lines}
 use Rattle.pl_watch.specs.Logs.IsLog.{Begins, GoesOn, IsMarked}
 use Rattle.pl_watch.specs.Logs.LogLine.{IsBelow, IsEntry, IsEvent}
 use Rattle.pl_watch.specs.Events.{event_words, node_of}
-use Rattle.pl_watch.specs.Looks.{ShowsAll, is_of, is_within, shows as are_shown, shows_entry, shows_event}
-use Rattle.pl_watch.specs.Rows.{Below}
+use Rattle.pl_log_lines.specs.Looks.{ShowsAll, is_of, is_within, shows as are_shown, shows_entry, shows_event}
+use Rattle.pl_log_lines.specs.Rows.{Below}
 
 -- ---- lines of events have no entries
 

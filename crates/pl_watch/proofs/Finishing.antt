@@ -23,19 +23,19 @@ use Rattle.pl_world.specs.Drops.Turn.{OfSwitch}
 use Rattle.pl_world.specs.Refusals.{refusal}
 use Rattle.pl_world.specs.WorldRule.{WorldStep}
 use Rattle.pl_world.specs.Worlds.{WorldView}
-use Rattle.pl_watch.specs.declared.look.Look.{Look}
-use Rattle.pl_watch.specs.declared.row.Verb.TheVariants as verb
-use Rattle.pl_watch.specs.declared.told.Told.{Told}
-use Rattle.pl_watch.specs.Acts.{act_line, heard_lines, manager_act_line}
+use Rattle.pl_log_lines.specs.declared.look.Look.{Look}
+use Rattle.pl_log_lines.specs.declared.row.Verb.TheVariants as verb
+use Rattle.pl_log_lines.specs.declared.told.Told.{Told}
+use Rattle.pl_log_lines.specs.Acts.{act_line, heard_lines, manager_act_line}
 use Rattle.pl_watch.specs.Events.{manager_of, node_of}
 use Rattle.pl_watch.specs.Logs.{LogLine, event_lines, log_text, lost_lines, manager_lines, news_at, present_line, said_in, shown_below, step_lines, switch_lines, unheard_lines}
-use Rattle.pl_watch.specs.Looks.{is_within, shows}
-use Rattle.pl_watch.specs.Messages.{told_line}
+use Rattle.pl_log_lines.specs.Looks.{is_within, shows}
+use Rattle.pl_log_lines.specs.Messages.{told_line}
 use Rattle.pl_watch.specs.News.{news}
-use Rattle.pl_watch.specs.Pages.{Prints}
-use Rattle.pl_watch.specs.Rows.{Below}
+use Rattle.pl_log_lines.specs.Pages.{Prints}
+use Rattle.pl_log_lines.specs.Rows.{Below}
 use Rattle.pl_watch.specs.Seen.{HasSeen, IsToldOf, Kept, ToldOfManager, ToldOfSwitch}
-use Rattle.pl_watch.specs.Telling.{Tells, TellsEvent, node_in}
+use Rattle.pl_log_lines.specs.Telling.{Tells, TellsEvent, node_in}
 use Rattle.pl_watch.proofs.Showing.{event_and_below}
 use Rattle.pl_watch.proofs.Turns.{AreSame, ManagerTakes, SwitchTakes, step_told, step_turns, step_unheard}
 use Rattle.pl_watch.proofs.Writing as writing

@@ -28,14 +28,14 @@ use Rattle.pl_world.proofs.Exports.{can_hear_each}
 use Rattle.pl_world_parts.specs.OneStep.{SwitchSteps, input_from, sizes}
 use Rattle.pl_schedule.specs.declared.world.coming.Coming.{Coming}
 use Rattle.pl_schedule.specs.Coming.{IsHeardThere}
-use Rattle.pl_watch.specs.declared.row.Verb.TheVariants as verb
-use Rattle.pl_watch.specs.declared.told.Told.{Told}
-use Rattle.pl_watch.specs.Acts.{act_line, heard_lines, manager_act_line}
-use Rattle.pl_watch.specs.Messages.{told_line}
+use Rattle.pl_log_lines.specs.declared.row.Verb.TheVariants as verb
+use Rattle.pl_log_lines.specs.declared.told.Told.{Told}
+use Rattle.pl_log_lines.specs.Acts.{act_line, heard_lines, manager_act_line}
+use Rattle.pl_log_lines.specs.Messages.{told_line}
 use Rattle.pl_watch.specs.News.{news}
-use Rattle.pl_watch.specs.Pages.{PageView}
+use Rattle.pl_log_lines.specs.Pages.{PageView}
 use Rattle.pl_watch.specs.Seen.{ToldOfManager, ToldOfSwitch}
-use Rattle.pl_watch.specs.Telling.{Tells, node_in}
+use Rattle.pl_log_lines.specs.Telling.{Tells, node_in}
 
 pub on_ok : {T E : Type 0} (r : Result T E) (A B : Type 0) → (A → B) → OnOk r A → OnOk r B
 on_ok (Ok x) A B f a = f a

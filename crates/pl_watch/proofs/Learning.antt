@@ -2,12 +2,12 @@
 use Rattle.std.proofs.Common.{◌≡◌, ◌<◌, ◌≤◌, ℕ, get_or, zero, suc, ◌+◌, Bool, true, false, List, [], ◌∷◌, ◌++◌, length, map, Option, None, Some, slice_get, take, refl, sym, ap, ◌∙◌, subst, add-one, arith}
 use Rattle.std.specs.List.{flat_map, range_with_len}
 use Rattle.std.proofs.lemmas.List.{flat_map_more, map-append, take_all, take_more}
-use Rattle.pl_watch.specs.declared.told.Told.{Told}
+use Rattle.pl_log_lines.specs.declared.told.Told.{Told}
 use Rattle.pl_watch.specs.News.{if_other}
-use Rattle.pl_watch.specs.Pages.{PageView}
-use Rattle.pl_watch.specs.Rows.{Below}
-use Rattle.pl_watch.specs.Telling.{Tells, node_in}
-use Rattle.pl_watch.proofs.Telling.{tells_nothing, tells_then}
+use Rattle.pl_log_lines.specs.Pages.{PageView}
+use Rattle.pl_log_lines.specs.Rows.{Below}
+use Rattle.pl_log_lines.specs.Telling.{Tells, node_in}
+use Rattle.pl_log_lines.proofs.Exports.{tells_nothing, tells_then}
 
 -- lines that speak of the event's own node, behind others
 pub tells_more : (old mid new : PageView) (before later last : Told) (first : List Below) (f : Option ℕ → List Below) → Tells old mid before later first →

@@ -10,11 +10,11 @@ use Rattle.pl_node.specs.AvoidRows.{is_listed}
 use Rattle.pl_node.specs.ManagerViews.{in_order}
 use Rattle.pl_node.proofs.Exports.{among_filter, among_filtered, among_in_order, among_ordered, any_among, avoided_exact, avoided_total, IsAmong, is_itself, is_same, member_passes, rising_in_order, same_rising}
 use Rattle.pl_wiring.specs.Plan.{Plan}
-use Rattle.pl_watch.specs.declared.told.Told.{Told}
+use Rattle.pl_log_lines.specs.declared.told.Told.{Told}
 use Rattle.pl_watch.specs.News.{avoid_line, left_of, left_over}
-use Rattle.pl_watch.specs.Pages.{PageView}
-use Rattle.pl_watch.specs.Telling.{Tells}
-use Rattle.pl_watch.proofs.Telling.{tells_nothing}
+use Rattle.pl_log_lines.specs.Pages.{PageView}
+use Rattle.pl_log_lines.specs.Telling.{Tells}
+use Rattle.pl_log_lines.proofs.Exports.{tells_nothing}
 
 abbrev Avoided : Type 0
 Avoided = SwitchId × ℕ × ℕ

@@ -1,7 +1,3 @@
-pub mod Words
-pub mod Finding
-pub mod Printing
-pub mod Telling
 pub mod Learning
 pub mod Sameness
 pub mod LeftOver

@@ -8,7 +8,7 @@ use Rattle.pl_world.specs.Changes.{noted}
 use Rattle.pl_world.specs.Runs.{Befalls, Moment, WorldRun}
 use Rattle.pl_world.specs.Runs.Moment.{Mark, Step}
 use Rattle.pl_world.specs.Worlds.{WorldView}
-use Rattle.pl_watch.specs.declared.look.Look.{Look}
+use Rattle.pl_log_lines.specs.declared.look.Look.{Look}
 use Rattle.pl_watch.specs.Logs.{IsLog, LogLine}
 use Rattle.pl_watch.specs.Logs.IsLog.{Begins, GoesOn, IsMarked}
 

@@ -6,11 +6,11 @@ use Rattle.std.proofs.lemmas.Bool.{and_parts, eqb-true}
 use Rattle.std.proofs.lemmas.Option.{same_Some}
 use Rattle.std.proofs.lemmas.Slice.Eq.{bytes_eq-Decides}
 use Rattle.pl_wiring.specs.declared.label.SwitchNo.{SwitchNo}
-use Rattle.pl_watch.specs.declared.kind.Kind.{Kind}
-use Rattle.pl_watch.specs.declared.kind.Kind.TheVariants as kind
-use Rattle.pl_watch.specs.declared.look.Look.{Look}
-use Rattle.pl_watch.specs.Kinds.{all_kinds, kind_text}
-use Rattle.pl_watch.specs.Looks.{same_kind, same_label, same_look}
+use Rattle.pl_log_lines.specs.declared.kind.Kind.{Kind}
+use Rattle.pl_log_lines.specs.declared.kind.Kind.TheVariants as kind
+use Rattle.pl_log_lines.specs.declared.look.Look.{Look}
+use Rattle.pl_log_lines.specs.Kinds.{all_kinds, kind_text}
+use Rattle.pl_watch.specs.SameLooks.{same_kind, same_label, same_look}
 use Rattle.pl_watch.specs.News.{same_bool, same_option}
 
 -- each kind is the one that its word names

@@ -10,14 +10,14 @@ use Rattle.pl_world.specs.Changes.{out_of}
 use Rattle.pl_world.specs.Refusals.{has_port, is_filled, refusal_of_event}
 use Rattle.pl_world.specs.Worlds.{WorldView}
 use Rattle.pl_world.proofs.Exports.{port_exists, there_is}
-use Rattle.pl_watch.specs.declared.told.Told.{Told}
+use Rattle.pl_log_lines.specs.declared.told.Told.{Told}
 use Rattle.pl_watch.specs.Events.{leaving, node_of}
 use Rattle.pl_watch.specs.Logs.{lost_lines, lost_of}
-use Rattle.pl_watch.specs.Pages.{PageView}
-use Rattle.pl_watch.specs.Rows.{Below}
-use Rattle.pl_watch.specs.Telling.{Tells, node_in}
+use Rattle.pl_log_lines.specs.Pages.{PageView}
+use Rattle.pl_log_lines.specs.Rows.{Below}
+use Rattle.pl_log_lines.specs.Telling.{Tells, node_in}
 use Rattle.pl_watch.proofs.Ends.{lost_at}
-use Rattle.pl_watch.proofs.Telling.{tells_nothing}
+use Rattle.pl_log_lines.proofs.Exports.{tells_nothing}
 
 none_leaves : (w : WorldView) (e : Event) → leaving e ≡ None → lost_lines w e ≡ []
 none_leaves w (event.Deliver (queue.FromHost h)) none = refl

@@ -20,11 +20,11 @@ use Rattle.pl_world.specs.Runs.{Moment}
 use Rattle.pl_world.specs.Runs.Moment.{Mark, Step}
 use Rattle.pl_world.specs.WorldRule.{WorldStep}
 use Rattle.pl_world.specs.Worlds.{WorldView}
-use Rattle.pl_watch.specs.declared.look.Look.{Look}
-use Rattle.pl_watch.specs.Looks.{is_within, shows}
+use Rattle.pl_log_lines.specs.declared.look.Look.{Look}
+use Rattle.pl_log_lines.specs.Looks.{is_within, shows}
 use Rattle.pl_watch.specs.Logs.{IsLog, LogLine, entry_lines, event_lines, manager_lines, present_line, said_in, shown_below, step_lines, switch_lines, unheard_lines}
 use Rattle.pl_watch.specs.Logs.IsLog.{Begins, GoesOn, IsMarked}
-use Rattle.pl_watch.specs.Rows.{Below}
+use Rattle.pl_log_lines.specs.Rows.{Below}
 use Rattle.pl_watch.proofs.Finishing.{not_told}
 use Rattle.pl_watch.proofs.Turns.{ManagerTakes, SwitchTakes, step_told, step_turns}
 

@@ -5,15 +5,15 @@ use Rattle.std.proofs.lemmas.List.{append-nil}
 use Rattle.pl_wiring.specs.Plan.{Plan}
 use Rattle.pl_world.specs.declared.event.Event.{Event}
 use Rattle.pl_world.specs.Worlds.{WorldView}
-use Rattle.pl_watch.specs.declared.told.Told.{Told}
+use Rattle.pl_log_lines.specs.declared.told.Told.{Told}
 use Rattle.pl_watch.specs.Events.{event_words, node_of}
 use Rattle.pl_watch.specs.Logs.{LogLine, event_lines, log_text}
 use Rattle.pl_watch.specs.Logs.LogLine.{IsBelow, IsEvent}
-use Rattle.pl_watch.specs.Looks.{is_within, shows, shows_event}
-use Rattle.pl_watch.specs.Pages.{PageView, Prints}
-use Rattle.pl_watch.specs.Rows.{Below, below_line, event_line, words_text}
-use Rattle.pl_watch.specs.Telling.{Tells, TellsEvent, below_text, head_text, is_event_shown, is_shown, node_in}
-use Rattle.pl_watch.proofs.Printing.{prints_then}
+use Rattle.pl_log_lines.specs.Looks.{is_within, shows, shows_event}
+use Rattle.pl_log_lines.specs.Pages.{PageView, Prints}
+use Rattle.pl_log_lines.specs.Rows.{Below, below_line, event_line, words_text}
+use Rattle.pl_log_lines.specs.Telling.{Tells, TellsEvent, below_text, head_text, is_event_shown, is_shown, node_in}
+use Rattle.pl_log_lines.proofs.Exports.{prints_then}
 
 module _ (json : Bool) (told : Told) where
   abbrev head : List ℕ

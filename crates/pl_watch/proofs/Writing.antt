@@ -27,15 +27,15 @@ use Rattle.pl_world.specs.Runs.Moment.{Step}
 use Rattle.pl_world.specs.WorldRule.{WorldStep}
 use Rattle.pl_world.specs.Worlds.{WorldView}
 use Rattle.pl_world.proofs.Exports.{step_plan}
-use Rattle.pl_watch.specs.declared.look.Look.{Look}
+use Rattle.pl_log_lines.specs.declared.look.Look.{Look}
 use Rattle.pl_watch.specs.Logs.{IsLog, LogLine, entry_lines, last_some, line_in, log_text, present_line, shown_below, shown_entry, text_of_line}
 use Rattle.pl_watch.specs.Logs.IsLog.{Begins, GoesOn}
-use Rattle.pl_watch.specs.Pages.{HoldsText, Prints}
+use Rattle.pl_log_lines.specs.Pages.{HoldsText, Prints}
 use Rattle.pl_watch.specs.Seen.{HasSeen, IsLogged, Kept, WritesEntry}
 use Rattle.pl_watch.proofs.Growing.{journal_grows, limits_stay}
 use Rattle.pl_watch.proofs.LogLaws.{run_of}
 use Rattle.pl_watch.specs.Marks.{holds_more}
-use Rattle.pl_watch.proofs.Printing.{ends_joined}
+use Rattle.pl_log_lines.proofs.Exports.{ends_joined}
 
 -- ---- the line of the script
 

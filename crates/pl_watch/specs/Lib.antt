@@ -1,13 +1,6 @@
-pub mod Acts
-pub mod Controls
 pub mod Events
-pub mod Kinds
 pub mod Logs
-pub mod Looks
 pub mod Marks
-pub mod Messages
 pub mod News
-pub mod Pages
-pub mod Rows
+pub mod SameLooks
 pub mod Seen
-pub mod Telling

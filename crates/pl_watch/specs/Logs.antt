@@ -26,15 +26,15 @@ use Rattle.pl_world.specs.Runs.Moment.{Mark, Step}
 use Rattle.pl_world.specs.WorldRule.{DeliversToManager, WorldStep}
 use Rattle.pl_world.specs.Worlds.{WorldView}
 use Rattle.pl_schedule.specs.Coming.{telling}
-use Rattle.pl_watch.specs.declared.look.Look.{Look}
-use Rattle.pl_watch.specs.declared.row.Verb.TheVariants as verb
-use Rattle.pl_watch.specs.Acts.{act_line, heard_lines, manager_act_line}
-use Rattle.pl_watch.specs.Controls.{control_line}
+use Rattle.pl_log_lines.specs.declared.look.Look.{Look}
+use Rattle.pl_log_lines.specs.declared.row.Verb.TheVariants as verb
+use Rattle.pl_log_lines.specs.Acts.{act_line, heard_lines, manager_act_line}
+use Rattle.pl_log_lines.specs.Controls.{control_line}
 use Rattle.pl_watch.specs.Events.{event_words, node_of}
-use Rattle.pl_watch.specs.Looks.{is_within, shows, shows_entry, shows_event}
-use Rattle.pl_watch.specs.Messages.{told_line}
+use Rattle.pl_log_lines.specs.Looks.{is_within, shows, shows_entry, shows_event}
+use Rattle.pl_log_lines.specs.Messages.{told_line}
 use Rattle.pl_watch.specs.News.{news}
-use Rattle.pl_watch.specs.Rows.{Below, below_line, entry_line, event_line}
+use Rattle.pl_log_lines.specs.Rows.{Below, below_line, entry_line, event_line}
 
 -- ---- what happens in a step, as lines below its event
 

@@ -13,10 +13,10 @@ use Rattle.pl_world.specs.Changes.{noted}
 use Rattle.pl_world.specs.Runs.{IsMark}
 use Rattle.pl_world.specs.Runs.Moment.{Mark}
 use Rattle.pl_world.specs.Worlds.{WorldView}
-use Rattle.pl_watch.specs.declared.look.Look.{Look}
+use Rattle.pl_log_lines.specs.declared.look.Look.{Look}
 use Rattle.pl_watch.specs.Logs.{LogLine, entry_lines, log_text, present_line, shown_entry, text_of_line}
 use Rattle.pl_watch.specs.Logs.IsLog.{IsMarked}
-use Rattle.pl_watch.specs.Pages.{HoldsText}
+use Rattle.pl_log_lines.specs.Pages.{HoldsText}
 use Rattle.pl_watch.specs.Seen.{HasSeen, Kept}
 
 -- entries are shown one list behind the other

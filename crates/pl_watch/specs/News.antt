@@ -16,12 +16,12 @@ use Rattle.pl_node.specs.PortRecords.{is_usable_record, port_of, ports_of_switch
 use Rattle.pl_node.specs.SwitchFacts.{has_granted, holder_of, part_of, present_attempt}
 use Rattle.pl_node.specs.SwitchViews.{SwitchView}
 use Rattle.pl_wiring.specs.Plan.{Plan}
-use Rattle.pl_watch.specs.declared.kind.Kind.{Kind}
-use Rattle.pl_watch.specs.declared.kind.Kind.TheVariants as kind
-use Rattle.pl_watch.specs.declared.row.Verb.TheVariants as verb
-use Rattle.pl_watch.specs.Controls.{fixed_word}
-use Rattle.pl_watch.specs.Messages.{tree_words, usable_word}
-use Rattle.pl_watch.specs.Rows.{Below, id_word, known_id_word, unknown}
+use Rattle.pl_log_lines.specs.declared.kind.Kind.{Kind}
+use Rattle.pl_log_lines.specs.declared.kind.Kind.TheVariants as kind
+use Rattle.pl_log_lines.specs.declared.row.Verb.TheVariants as verb
+use Rattle.pl_log_lines.specs.Controls.{fixed_word}
+use Rattle.pl_log_lines.specs.Messages.{tree_words, usable_word}
+use Rattle.pl_log_lines.specs.Rows.{Below, id_word, known_id_word, unknown}
 
 -- ---- when two things that may be known are the same
 

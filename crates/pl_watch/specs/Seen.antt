@@ -17,17 +17,17 @@ use Rattle.pl_world.specs.Booting.{booted}
 use Rattle.pl_world.specs.Runs.{Moment}
 use Rattle.pl_world.specs.Worlds.{WorldView}
 use Rattle.pl_world.specs.Drops.{Coming}
-use Rattle.pl_watch.specs.declared.look.Look.{Look}
-use Rattle.pl_watch.specs.declared.row.Verb.TheVariants as verb
-use Rattle.pl_watch.specs.declared.told.Told.{Told}
-use Rattle.pl_watch.specs.Acts.{act_line, heard_lines, manager_act_line}
+use Rattle.pl_log_lines.specs.declared.look.Look.{Look}
+use Rattle.pl_log_lines.specs.declared.row.Verb.TheVariants as verb
+use Rattle.pl_log_lines.specs.declared.told.Told.{Told}
+use Rattle.pl_log_lines.specs.Acts.{act_line, heard_lines, manager_act_line}
 use Rattle.pl_watch.specs.Events.{event_words, node_of}
-use Rattle.pl_watch.specs.Messages.{told_line}
+use Rattle.pl_log_lines.specs.Messages.{told_line}
 use Rattle.pl_watch.specs.News.{news}
-use Rattle.pl_watch.specs.Rows.{words_text}
-use Rattle.pl_watch.specs.Telling.{Tells, node_in}
+use Rattle.pl_log_lines.specs.Rows.{words_text}
+use Rattle.pl_log_lines.specs.Telling.{Tells, node_in}
 use Rattle.pl_watch.specs.Logs.{IsLog, LogLine, entry_lines, line_in, log_text, present_line, shown_entry}
-use Rattle.pl_watch.specs.Pages.{HoldsText, PageView, Prints}
+use Rattle.pl_log_lines.specs.Pages.{HoldsText, PageView, Prints}
 
 -- what is kept: the page, what the second switches and the second manager know, how many entries were written, and the line of the last of them
 pub record Kept : Type 0 where

@@ -1,13 +1,12 @@
-ghost use Rattle.std.specs.Prelude.{◌≡◌, ◌<◌, ◌+◌, ◌&&◌, [], IfOk, None, OnOk, false, length, map, nat_le, option_map, slice_get, true, unwrap_or};
+ghost use Rattle.std.specs.Prelude.{◌≡◌, ◌<◌, ◌+◌, [], IfOk, None, OnOk, false, length, map, nat_le, slice_get, true, unwrap_or};
 ghost use Rattle.pl_wiring.specs.Labels.{switch_count};
 ghost use Rattle.pl_journal.specs.Text.{IsNamed};
 ghost use Rattle.pl_schedule.specs.Coming.{IsHeardThere, coming_of};
 ghost use Rattle.pl_shelf.specs.Held.{standard_output};
-ghost use Rattle.pl_watch.specs.Looks.{is_within, shows_entry, switch_of};
-ghost use Rattle.pl_watch.specs.Pages.{HoldsText, Prints};
+ghost use Rattle.pl_log_lines.specs.Pages.{HoldsText, Prints};
 ghost use Rattle.pl_watch.specs.Logs.{line_in, log_text, lost_lines, lost_of, shown_entry};
 ghost use Rattle.pl_watch.specs.Seen.{HasSeen, IsLogged, IsToldOf, ToldOfManager, ToldOfSwitch, WritesEntry};
-ghost use Rattle.pl_watch.specs.Telling.{Tells, TellsEvent, node_in};
+ghost use Rattle.pl_log_lines.specs.Telling.{Tells, TellsEvent, node_in};
 ghost use Rattle.pl_watch.specs.Marks.{a_mark_is_seen};
 ghost use Rattle.pl_world.specs.declared.limits.Limits.{Limits};
 ghost use Rattle.pl_world.specs.Booting.{booted};
@@ -23,16 +22,14 @@ use crate::decided::{DecidedManager, DecidedSwitch};
 use crate::events::{event_words, node_of};
 use crate::heard::{tell_of_manager, tell_of_switch, tell_unheard};
 use crate::log_laws::a_log_is_of_a_run;
-use crate::look::Look;
 use crate::news::Change;
-use crate::page::Page;
 use crate::same::is_same_look;
 use crate::shadows::Shadows;
-use crate::told::Told;
 use pl_frame::Memory;
 use pl_journal::Entry;
 use pl_law_runs::every_entry_can_be_saved;
 use pl_lists::Queue;
+use pl_log_lines::{Look, Page, Told};
 use pl_node::{HostLogic, ManagerLogic, SwitchLogic, ToManager};
 use pl_schedule::{Coming, World};
 use pl_shelf::Shelf;
@@ -395,45 +392,10 @@ fn write_entry<D: Shelf + Drop>(
     requires { IsNamed wiring.now entry.now }
     ensures { Prints page.old page.new (log_text page.old.json wiring.now (shown_entry look.now line entry.now)) }
 {
-    if !is_shown(look, line, entry) {
+    if !look.is_entry_shown(line, entry) {
         return;
     }
     page.print_entry(&entry.words(wiring));
-}
-
-fn is_shown(look: &Look, line: u32, entry: &Entry) -> bool
-    ensures { result ≡ (is_within look.now line && shows_entry look.now entry.now) }
-{
-    look.is_within(line) && shows_entry(look, entry)
-}
-
-// Lines of the script always; else what speaks of no other switch, unless one kind alone is shown.
-fn shows_entry(look: &Look, entry: &Entry) -> bool
-    ensures { result ≡ shows_entry look.now entry.now }
-{
-    match entry {
-        Entry::Line(_) => true,
-        Entry::Settled(_) => true,
-        Entry::Unsettled(_) => true,
-        _ => look.kind.is_none() && look.is_of(switch_of(entry)),
-    }
-}
-
-// The switch of which an entry speaks.
-fn switch_of(entry: &Entry) -> Option<SwitchNo>
-    ensures { option_map (λ s. s.0) result ≡ switch_of entry.now }
-{
-    match entry {
-        Entry::Made(_, s, _) => Some(*s),
-        Entry::Crossed(_, s) => Some(*s),
-        Entry::Taken(_, s) => Some(*s),
-        Entry::Granted(_, _, s, _) => Some(*s),
-        Entry::Placed(s, _) => Some(*s),
-        Entry::LinkDown(s, _) => Some(*s),
-        Entry::LinkUp(s, _) => Some(*s),
-        Entry::Moved(_, s, _) => Some(*s),
-        _ => None,
-    }
 }
 
 impl<S: DecidedSwitch, M: DecidedManager, H: HostLogic, D: Shelf + Drop> Watcher<S, M, H>

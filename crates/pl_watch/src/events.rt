@@ -7,10 +7,10 @@ ghost use Rattle.pl_world.specs.Changes.{host_at};
 ghost use Rattle.pl_world.specs.LinksAndMoves.{link_between};
 ghost use Rattle.pl_world.specs.Refusals.{has_queue, is_filled, refusal_of_event, refusal_of_queue};
 ghost use Rattle.pl_watch.specs.Events.{along_words, end_of, entering_words, event_words, node_of};
-ghost use Rattle.pl_watch.specs.Rows.{word_text, words_text};
+ghost use Rattle.pl_log_lines.specs.Rows.{word_text, words_text};
 
-use crate::row::{UNKNOWN, Word, label, port, text};
 use pl_journal::Field;
+use pl_log_lines::{UNKNOWN, Word, label, port, text};
 use pl_node::{HostLogic, ManagerLogic, SwitchLogic};
 use pl_schedule::World;
 use pl_wiring::{HostNo, Peer, SwitchNo};

@@ -1,20 +1,17 @@
 ghost use Rattle.std.specs.Prelude.{◌≡◌, ◌∷◌, ◌++◌, OnOk, Some, map};
 ghost use Rattle.std.specs.Option.{option_copied};
 ghost use Rattle.pl_schedule.specs.Coming.{coming_of};
-ghost use Rattle.pl_watch.specs.Acts.{act_line, heard_lines, manager_act_line};
+ghost use Rattle.pl_log_lines.specs.Acts.{act_line, heard_lines, manager_act_line};
 ghost use Rattle.pl_watch.specs.Logs.{lost_of};
-ghost use Rattle.pl_watch.specs.Messages.{told_line};
+ghost use Rattle.pl_log_lines.specs.Messages.{told_line};
 ghost use Rattle.pl_watch.specs.News.{news};
-ghost use Rattle.pl_watch.specs.Telling.{Tells, node_in};
+ghost use Rattle.pl_log_lines.specs.Telling.{Tells, node_in};
 
-use crate::acts::{tell_acts, tell_heard, tell_manager_acts};
-use crate::controls::lost_control;
-use crate::messages::told_row;
 use crate::news::Change;
-use crate::page::Page;
-use crate::row::Verb;
-use crate::told::Told;
 use pl_frame::Memory;
+use pl_log_lines::{
+    Page, Told, Verb, lost_control, tell_acts, tell_heard, tell_manager_acts, told_row,
+};
 use pl_node::{ManagerOutbox, Outbox, SwitchFacts, ToManager};
 use pl_schedule::Coming;
 use pl_shelf::Shelf;

@@ -3,31 +3,20 @@
 //!
 //! A `Chronicle` sees the steps of a world just before each is made. It has a second set of switches and a second manager, which
 //! hear what the world's are about to hear: their rules leave no choice, so they do the same. Lines go out as they come, and no
-//! list of them is kept.
+//! list of them is kept; pl_log_lines says how they look.
 #![tactic(auto)]
 
 pub use chronicle::Chronicle;
 pub use decided::{DecidedManager, DecidedSwitch};
-pub use kind::Kind;
 pub use log_laws::{
     a_log_is_of_a_run, each_run_has_a_log, one_run_one_log, the_journal_stands_in_the_log,
 };
-pub use look::Look;
-pub use page::Page;
 
-mod acts;
 mod chronicle;
-mod controls;
 mod decided;
 mod events;
 mod heard;
-mod kind;
 mod log_laws;
-mod look;
-mod messages;
 mod news;
-mod page;
-mod row;
 mod same;
 mod shadows;
-mod told;

@@ -5,9 +5,9 @@ ghost use Rattle.pl_world.specs.Booting.{CanBegin, booted};
 ghost use Rattle.pl_world.specs.Runs.{Moment, WorldRun};
 ghost use Rattle.pl_world.specs.Worlds.{WorldView};
 ghost use Rattle.pl_law_runs.specs.NoChoice.{LeavesHostNoChoice, LeavesManagerNoChoice, LeavesSwitchNoChoice};
-ghost use Rattle.pl_watch.specs.declared.look.Look.{Look};
+ghost use Rattle.pl_log_lines.specs.declared.look.Look.{Look};
 ghost use Rattle.pl_watch.specs.Logs.{IsLog, LogLine, entries_in};
-ghost use Rattle.pl_watch.specs.Looks.{ShowsAll};
+ghost use Rattle.pl_log_lines.specs.Looks.{ShowsAll};
 
 use pl_node::{HostLogic, ManagerLogic, SwitchLogic};
 

@@ -3,20 +3,15 @@ ghost use Rattle.std.specs.List.{flat_map, range_with_len};
 ghost use Rattle.std.specs.Option.{option_copied};
 ghost use Rattle.pl_node.specs.PortRecords.{ports_of_switch};
 ghost use Rattle.pl_watch.specs.News.{attempt_news, attempt_words, avoid_line, avoid_news, avoid_words, below_line_of, below_lines, granted_news, groups_in, heard_news, hold_news, hold_words, knowing, left_over, neighbour_words, news, part_ends, part_news, place_news, port_news, port_words, same_silence, silent_news, tree_news};
-ghost use Rattle.pl_watch.specs.Rows.{below_of, id_word, words_text};
-ghost use Rattle.pl_watch.specs.Telling.{Tells, node_in};
+ghost use Rattle.pl_log_lines.specs.Rows.{below_of, id_word, words_text};
+ghost use Rattle.pl_log_lines.specs.Telling.{Tells, node_in};
 
-use crate::controls::fixed_word;
-use crate::kind::Kind;
-use crate::messages::{place_words, tree_words, usable_word};
-use crate::page::Page;
-use crate::row::{
-    Row, UNKNOWN, Verb, Words, number, one, part, pod, port, switch, switch_if_known, text, three,
-    two,
-};
 use crate::same::{is_same_attempt, is_same_hold, is_same_part, is_same_port};
-use crate::told::Told;
 use pl_frame::{Memory, SwitchId};
+use pl_log_lines::{
+    Kind, Page, Row, Told, UNKNOWN, Verb, Words, fixed_word, number, one, part, place_words, pod,
+    port, switch, switch_if_known, text, three, tree_words, two, usable_word,
+};
 use pl_node::{AvoidList, Neighbour, PortRecord, SwitchFacts, TreePart, is_same_place};
 use pl_shelf::Shelf;
 use pl_world_parts::WiringIndex;

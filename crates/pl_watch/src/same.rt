@@ -1,12 +1,11 @@
 ghost use Rattle.std.specs.Prelude.{◌≡◌};
 ghost use Rattle.std.specs.Option.{option_copied};
 ghost use Rattle.pl_layouts.specs.Equality.{same_switch};
-ghost use Rattle.pl_watch.specs.Looks.{same_kind, same_label, same_look};
+ghost use Rattle.pl_watch.specs.SameLooks.{same_kind, same_label, same_look};
 ghost use Rattle.pl_watch.specs.News.{same_attempt, same_bool, same_hold, same_ids, same_neighbour, same_option, same_part, same_port};
 
-use crate::kind::Kind;
-use crate::look::Look;
 use pl_frame::SwitchId;
+use pl_log_lines::{Kind, Look};
 use pl_node::{Neighbour, PortRecord, TreePart, is_same_place};
 use pl_wiring::SwitchNo;
 

@@ -20,10 +20,10 @@ use Rattle.pl_world.specs.declared.limits.Limits.{Limits}
 use Rattle.pl_world.specs.Booting.{CanBegin, booted}
 use Rattle.pl_world.specs.Runs.{Moment}
 use Rattle.pl_world.specs.Worlds.{WorldView}
-use Rattle.pl_watch.specs.declared.look.Look.{Look}
+use Rattle.pl_log_lines.specs.declared.look.Look.{Look}
 use Rattle.pl_watch.specs.Logs.{IsLog, LogLine, entries_in}
-use Rattle.pl_watch.specs.Looks.{ShowsAll}
-use Rattle.pl_watch.specs.Pages.{HoldsText}
+use Rattle.pl_log_lines.specs.Looks.{ShowsAll}
+use Rattle.pl_log_lines.specs.Pages.{HoldsText}
 use Rattle.pl_watch.specs.Seen.{IsLogged}
 use Rattle.pl_watch_run.specs.Answers.{EndsWatching}
 

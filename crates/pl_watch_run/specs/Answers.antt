@@ -18,9 +18,9 @@ use Rattle.pl_playing.specs.Networks.{PlaysTo}
 use Rattle.pl_playing.specs.Outcomes.{IsUntouched}
 use Rattle.pl_playing.specs.Watched.{LedTo}
 use Rattle.pl_world.specs.Worlds.{WorldView}
-use Rattle.pl_watch.specs.declared.look.Look.{Look}
+use Rattle.pl_log_lines.specs.declared.look.Look.{Look}
 use Rattle.pl_watch.specs.Logs.{entries_in}
-use Rattle.pl_watch.specs.Looks.{ShowsAll}
+use Rattle.pl_log_lines.specs.Looks.{ShowsAll}
 use Rattle.pl_watch.specs.Seen.{IsLogged}
 use Rattle.pl_watch_run.specs.Words.{Watching, look_of}
 

@@ -8,9 +8,9 @@ use Rattle.pl_wiring.specs.SwitchNames.{switch_named}
 use Rattle.pl_inputs.specs.Met.{asked}
 use Rattle.pl_inputs.specs.Words.{Asked, Given, items_of, number_in, value_if_given, value_in}
 use Rattle.pl_inputs.specs.declared.words.Network.TheVariants.{Fabric}
-use Rattle.pl_watch.specs.declared.kind.Kind.{Kind}
-use Rattle.pl_watch.specs.declared.look.Look.{Look}
-use Rattle.pl_watch.specs.Kinds.{all_kinds, kind_text}
+use Rattle.pl_log_lines.specs.declared.kind.Kind.{Kind}
+use Rattle.pl_log_lines.specs.declared.look.Look.{Look}
+use Rattle.pl_log_lines.specs.Kinds.{all_kinds, kind_text}
 use Rattle.pl_watch_run.specs.declared.words.Asked.{Asked as Told}
 
 -- what the program is asked to do: the files of a run, and the words that say which lines of its log are shown

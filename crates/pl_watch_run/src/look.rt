@@ -5,8 +5,8 @@ ghost use Rattle.pl_watch_run.specs.Words.{if_given, is_dash, kind_named, line_n
 ghost use Rattle.pl_wiring.specs.SwitchNames.{switch_named};
 
 use crate::words::Asked;
+use pl_log_lines::{Kind, Look};
 use pl_script::number;
-use pl_watch::{Kind, Look};
 use pl_wiring::{SwitchNo, Wiring};
 
 /// The lines that are shown; none where a switch, a kind or a number is none.

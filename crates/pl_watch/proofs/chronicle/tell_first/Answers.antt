@@ -1,7 +1,7 @@
 use Rattle.std.proofs.Common.{slice_get, subst}
 use Rattle.pl_world.specs.Changes.{out_of}
 use Rattle.pl_watch.specs.Logs.{lost_of}
-use Rattle.pl_watch.specs.Telling.{Tells, node_in}
+use Rattle.pl_log_lines.specs.Telling.{Tells, node_in}
 use Rattle.pl_watch.proofs.chronicle.tell_first.Goals as goal
 
 pub first_out-first-requires-clause-switch : goal.first_out-first-requires-clause-switch

@@ -1,9 +1,9 @@
 use Rattle.std.proofs.Common.{◌∙◌, ◌∷◌, [], None, Some, ap, subst, sym}
-use Rattle.pl_watch.specs.declared.row.Verb.TheVariants as verb
+use Rattle.pl_log_lines.specs.declared.row.Verb.TheVariants as verb
 use Rattle.pl_world.specs.declared.item.Item.{Item}
-use Rattle.pl_watch.specs.Controls.{control_line}
+use Rattle.pl_log_lines.specs.Controls.{control_line}
 use Rattle.pl_watch.specs.Logs.{lost_of}
-use Rattle.pl_watch.specs.Telling.{Tells, node_in}
+use Rattle.pl_log_lines.specs.Telling.{Tells, node_in}
 use Rattle.pl_watch.proofs.heard.tell_lost_item.Goals as goal
 
 pub returns-in-Control : goal.returns-in-Control

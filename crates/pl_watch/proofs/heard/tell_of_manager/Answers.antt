@@ -1,8 +1,8 @@
 use Rattle.std.proofs.Common.{◌∷◌, [], map, subst}
-use Rattle.pl_watch.specs.declared.row.Verb.TheVariants as verb
-use Rattle.pl_watch.specs.Acts.{manager_act_line}
-use Rattle.pl_watch.specs.Messages.{told_line}
-use Rattle.pl_watch.specs.Telling.{Tells, node_in}
+use Rattle.pl_log_lines.specs.declared.row.Verb.TheVariants as verb
+use Rattle.pl_log_lines.specs.Acts.{manager_act_line}
+use Rattle.pl_log_lines.specs.Messages.{told_line}
+use Rattle.pl_log_lines.specs.Telling.{Tells, node_in}
 use Rattle.pl_watch.proofs.Learning.{tells_more}
 use Rattle.pl_watch.proofs.heard.tell_of_manager.Goals as goal
 

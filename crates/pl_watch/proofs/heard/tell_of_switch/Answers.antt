@@ -1,8 +1,8 @@
 use Rattle.std.proofs.Common.{◌++◌, map}
 use Rattle.pl_world_parts.specs.OneStep.{input_from}
-use Rattle.pl_watch.specs.Acts.{act_line, heard_lines}
+use Rattle.pl_log_lines.specs.Acts.{act_line, heard_lines}
 use Rattle.pl_watch.specs.News.{news}
-use Rattle.pl_watch.specs.Telling.{node_in}
+use Rattle.pl_log_lines.specs.Telling.{node_in}
 use Rattle.pl_watch.proofs.Learning.{tells_more}
 use Rattle.pl_watch.proofs.heard.tell_of_switch.Goals as goal
 

@@ -1,10 +1,10 @@
 use Rattle.std.proofs.Common.{◌∙◌, ap}
-use Rattle.pl_watch.specs.declared.kind.Kind.TheVariants as kind
+use Rattle.pl_log_lines.specs.declared.kind.Kind.TheVariants as kind
 use Rattle.pl_watch.specs.News.{avoid_line, knowing}
-use Rattle.pl_watch.specs.Rows.{below_of}
-use Rattle.pl_watch.specs.Telling.{node_in}
+use Rattle.pl_log_lines.specs.Rows.{below_of}
+use Rattle.pl_log_lines.specs.Telling.{node_in}
 use Rattle.pl_watch.proofs.Learning.{tells_mapped}
-use Rattle.pl_watch.proofs.Telling.{tells_nothing}
+use Rattle.pl_log_lines.proofs.Exports.{tells_nothing}
 use Rattle.pl_watch.proofs.news.tell_entries.Goals as goal
 
 pub loop-entry-init : goal.loop-entry-init

@@ -1,6 +1,6 @@
 use Rattle.std.proofs.Common.{map, take}
 use Rattle.pl_watch.specs.News.{avoid_line}
-use Rattle.pl_watch.specs.Telling.{Tells, node_in}
+use Rattle.pl_log_lines.specs.Telling.{Tells, node_in}
 use Rattle.pl_watch.proofs.news.tell_entries.Given as goal
 
 abbrev pub invariant-loop-entry : goal.invariant-loop-entry

@@ -1,6 +1,6 @@
 use Rattle.std.proofs.Common.{map, take}
 use Rattle.pl_watch.specs.News.{below_line_of}
-use Rattle.pl_watch.specs.Telling.{Tells, node_in}
+use Rattle.pl_log_lines.specs.Telling.{Tells, node_in}
 use Rattle.pl_watch.proofs.news.tell_ids.Given as goal
 
 abbrev pub invariant-loop-id : goal.invariant-loop-id

@@ -1,7 +1,7 @@
 use Rattle.std.proofs.Common.{◌∙◌, ℕ, List, map, subst}
 use Rattle.pl_frame.specs.declared.address.SwitchId.{SwitchId}
 use Rattle.pl_watch.specs.News.{avoid_line}
-use Rattle.pl_watch.specs.Telling.{Tells, node_in}
+use Rattle.pl_log_lines.specs.Telling.{Tells, node_in}
 use Rattle.pl_watch.proofs.LeftOver.{rest_is}
 use Rattle.pl_watch.proofs.news.tell_left_over.Goals as goal
 

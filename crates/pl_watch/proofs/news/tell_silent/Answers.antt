@@ -1,9 +1,9 @@
 use Rattle.std.proofs.Common.{rules, ◌∙◌, ◌∷◌, [], ap, decimal}
-use Rattle.pl_watch.specs.declared.kind.Kind.TheVariants as kind
-use Rattle.pl_watch.specs.Rows.{below_of}
-use Rattle.pl_watch.specs.Telling.{node_in}
+use Rattle.pl_log_lines.specs.declared.kind.Kind.TheVariants as kind
+use Rattle.pl_log_lines.specs.Rows.{below_of}
+use Rattle.pl_log_lines.specs.Telling.{node_in}
 use Rattle.pl_watch.proofs.Learning.{tells_line}
-use Rattle.pl_watch.specs.Rows.{word_text}
+use Rattle.pl_log_lines.specs.Rows.{word_text}
 use Rattle.pl_watch.specs.News.{knowing, same_silence}
 use Rattle.pl_watch.proofs.news.tell_silent.Goals as goal
 

@@ -1,5 +1,5 @@
 use Rattle.std.proofs.Common.{subst}
-use Rattle.pl_watch.specs.declared.look.Look.{Look}
+use Rattle.pl_log_lines.specs.declared.look.Look.{Look}
 use Rattle.pl_watch_run.specs.Answers.{EndsWatching}
 use Rattle.pl_watch_run.proofs.Ending.{if_ok}
 use Rattle.pl_watch_run.proofs.watching.close_shown.Goals as goal

@@ -1,5 +1,5 @@
 use Rattle.std.proofs.Common.{[], refl, sym, subst}
-use Rattle.pl_watch.specs.Pages.{HoldsText}
+use Rattle.pl_log_lines.specs.Pages.{HoldsText}
 use Rattle.pl_watch.proofs.Writing.{begun_seen}
 use Rattle.pl_watch.proofs.chronicle.Chronicle.begin.Goals as goal
 

@@ -1,7 +1,7 @@
 use Rattle.std.proofs.Common.{ap, subst}
-use Rattle.pl_watch.specs.Pages.{PageView}
+use Rattle.pl_log_lines.specs.Pages.{PageView}
 use Rattle.pl_watch.specs.Seen.{Kept}
-use Rattle.pl_watch.specs.Telling.{TellsEvent}
+use Rattle.pl_log_lines.specs.Telling.{TellsEvent}
 use Rattle.pl_watch.proofs.chronicle.Chronicle.begin_event.Goals as goal
 
 pub returns-clause-page : goal.returns-clause-page

@@ -1,6 +1,6 @@
 use Rattle.std.proofs.Common.{ap, ◌∙◌, subst, unwrap_or}
 use Rattle.pl_watch.specs.Logs.{line_in, log_text, shown_entry}
-use Rattle.pl_watch.specs.Pages.{Prints}
+use Rattle.pl_log_lines.specs.Pages.{Prints}
 use Rattle.pl_watch.specs.Seen.{Kept}
 use Rattle.pl_watch.proofs.chronicle.Chronicle.tell_entry.Goals as goal
 

@@ -4,8 +4,8 @@ use Rattle.pl_world.proofs.Exports.{event_is_not_refused}
 use Rattle.pl_watch.specs.Seen.{Kept}
 use Rattle.pl_watch.specs.Events.{manager_of}
 use Rattle.pl_watch.specs.Logs.{lost_lines}
-use Rattle.pl_watch.specs.Pages.{PageView}
-use Rattle.pl_watch.specs.Telling.{Tells, node_in}
+use Rattle.pl_log_lines.specs.Pages.{PageView}
+use Rattle.pl_log_lines.specs.Telling.{Tells, node_in}
 use Rattle.pl_watch.proofs.Finishing.{manager_told, nothing_told, switch_told}
 use Rattle.pl_watch.proofs.Hearing.{none_left, none_mapped, not_spent, on_both, on_ok}
 use Rattle.pl_watch.proofs.chronicle.Chronicle.tell_event.Goals as goal

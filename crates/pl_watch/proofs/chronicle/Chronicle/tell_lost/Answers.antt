@@ -1,8 +1,8 @@
 use Rattle.std.proofs.Common.{ap, subst}
 use Rattle.pl_watch.specs.Logs.{lost_lines}
-use Rattle.pl_watch.specs.Pages.{PageView}
+use Rattle.pl_log_lines.specs.Pages.{PageView}
 use Rattle.pl_watch.specs.Seen.{Kept}
-use Rattle.pl_watch.specs.Telling.{Tells}
+use Rattle.pl_log_lines.specs.Telling.{Tells}
 use Rattle.pl_watch.proofs.chronicle.Chronicle.tell_lost.Goals as goal
 
 pub tell_lost-requires-clause-allowed : goal.tell_lost-requires-clause-allowed

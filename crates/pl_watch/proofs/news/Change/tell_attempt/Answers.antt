@@ -1,7 +1,7 @@
 use Rattle.std.proofs.Common.{rules, ◌∙◌, ap}
-use Rattle.pl_watch.specs.declared.kind.Kind.TheVariants as kind
-use Rattle.pl_watch.specs.Rows.{below_of}
-use Rattle.pl_watch.specs.Telling.{node_in}
+use Rattle.pl_log_lines.specs.declared.kind.Kind.TheVariants as kind
+use Rattle.pl_log_lines.specs.Rows.{below_of}
+use Rattle.pl_log_lines.specs.Telling.{node_in}
 use Rattle.pl_watch.proofs.Learning.{tells_line}
 use Rattle.pl_node.specs.SwitchFacts.{present_attempt}
 use Rattle.pl_watch.specs.News.{attempt_words, knowing, same_attempt, same_option}

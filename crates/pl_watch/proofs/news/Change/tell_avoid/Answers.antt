@@ -1,7 +1,7 @@
 use Rattle.std.proofs.Common.{◌∙◌, ℕ, List, codes, ◌++◌, sym, subst}
 use Rattle.pl_frame.specs.declared.address.SwitchId.{SwitchId}
 use Rattle.pl_watch.specs.News.{left_over}
-use Rattle.pl_watch.specs.Telling.{Tells, node_in}
+use Rattle.pl_log_lines.specs.Telling.{Tells, node_in}
 use Rattle.pl_watch.proofs.Learning.{tells_more}
 use Rattle.pl_watch.proofs.LeftOver.{same_avoid}
 use Rattle.pl_watch.proofs.news.Change.tell_avoid.Goals as goal

@@ -1,10 +1,10 @@
 use Rattle.std.proofs.Common.{rules, ◌∙◌, ap, is_some, None}
-use Rattle.pl_watch.specs.declared.kind.Kind.TheVariants as kind
-use Rattle.pl_watch.specs.Rows.{below_of}
-use Rattle.pl_watch.specs.Telling.{node_in}
+use Rattle.pl_log_lines.specs.declared.kind.Kind.TheVariants as kind
+use Rattle.pl_log_lines.specs.Rows.{below_of}
+use Rattle.pl_log_lines.specs.Telling.{node_in}
 use Rattle.pl_watch.proofs.Learning.{tells_line}
 use Rattle.pl_node.specs.SwitchFacts.{part_of}
-use Rattle.pl_watch.specs.Messages.{tree_words}
+use Rattle.pl_log_lines.specs.Messages.{tree_words}
 use Rattle.pl_watch.specs.News.{knowing}
 use Rattle.pl_watch.proofs.news.Change.tell_end.Goals as goal
 

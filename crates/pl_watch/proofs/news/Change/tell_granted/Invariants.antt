@@ -1,6 +1,6 @@
 use Rattle.std.specs.List.{flat_map, range_with_len}
 use Rattle.pl_watch.specs.News.{granted_news}
-use Rattle.pl_watch.specs.Telling.{Tells, node_in}
+use Rattle.pl_log_lines.specs.Telling.{Tells, node_in}
 use Rattle.pl_watch.proofs.news.Change.tell_granted.Given as goal
 
 abbrev pub invariant-loop-at : goal.invariant-loop-at

@@ -1,9 +1,9 @@
 use Rattle.std.proofs.Common.{◌≡◌, ◌∙◌, ◌/◌, ap, subst, arith}
 use Rattle.std.specs.List.{flat_map, range_with_len}
 use Rattle.pl_watch.specs.News.{hold_news}
-use Rattle.pl_watch.specs.Telling.{Tells, node_in}
+use Rattle.pl_log_lines.specs.Telling.{Tells, node_in}
 use Rattle.pl_watch.proofs.Learning.{tells_at}
-use Rattle.pl_watch.proofs.Telling.{tells_nothing}
+use Rattle.pl_log_lines.proofs.Exports.{tells_nothing}
 use Rattle.pl_watch.proofs.news.Change.tell_holds.Goals as goal
 
 pub loop-position-init : goal.loop-position-init

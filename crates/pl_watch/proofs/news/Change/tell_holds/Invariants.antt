@@ -1,6 +1,6 @@
 use Rattle.std.specs.List.{flat_map, range_with_len}
 use Rattle.pl_watch.specs.News.{hold_news}
-use Rattle.pl_watch.specs.Telling.{Tells, node_in}
+use Rattle.pl_log_lines.specs.Telling.{Tells, node_in}
 use Rattle.pl_watch.proofs.news.Change.tell_holds.Given as goal
 
 abbrev pub invariant-loop-position : goal.invariant-loop-position

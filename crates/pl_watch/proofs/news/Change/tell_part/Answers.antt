@@ -1,10 +1,10 @@
 use Rattle.std.proofs.Common.{rules, ◌∙◌, ◌∷◌, [], Option, ap, subst}
 use Rattle.pl_node.specs.declared.messages.TreePart.{TreePart}
 use Rattle.pl_node.specs.SwitchFacts.{part_of}
-use Rattle.pl_watch.specs.declared.kind.Kind.TheVariants as kind
-use Rattle.pl_watch.specs.Messages.{tree_words}
+use Rattle.pl_log_lines.specs.declared.kind.Kind.TheVariants as kind
+use Rattle.pl_log_lines.specs.Messages.{tree_words}
 use Rattle.pl_watch.specs.News.{below_lines, knowing, part_lines, same_option, same_part}
-use Rattle.pl_watch.specs.Telling.{Tells, node_in}
+use Rattle.pl_log_lines.specs.Telling.{Tells, node_in}
 use Rattle.pl_watch.proofs.Learning.{tells_more, tells_other}
 use Rattle.pl_watch.proofs.news.Change.tell_part.Goals as goal
 

@@ -3,9 +3,9 @@ use Rattle.std.specs.List.{flat_map}
 use Rattle.std.proofs.lemmas.Option.{slice_get-map}
 use Rattle.pl_node.specs.declared.messages.TreePart.{TreePart}
 use Rattle.pl_watch.specs.News.{part_news}
-use Rattle.pl_watch.specs.Telling.{Tells, node_in}
+use Rattle.pl_log_lines.specs.Telling.{Tells, node_in}
 use Rattle.pl_watch.proofs.Learning.{tells_all, tells_taken}
-use Rattle.pl_watch.proofs.Telling.{tells_nothing}
+use Rattle.pl_log_lines.proofs.Exports.{tells_nothing}
 use Rattle.pl_watch.proofs.news.Change.tell_parts.Goals as goal
 
 pub loop-n-init : goal.loop-n-init

@@ -2,7 +2,7 @@ use Rattle.std.proofs.Common.{◌++◌, subst}
 use Rattle.pl_node.specs.declared.neighbour.PortRecord.{PortRecord}
 use Rattle.pl_node.specs.PortRecords.{port_of}
 use Rattle.pl_watch.specs.News.{heard_news, silent_news}
-use Rattle.pl_watch.specs.Telling.{Tells, node_in}
+use Rattle.pl_log_lines.specs.Telling.{Tells, node_in}
 use Rattle.pl_watch.proofs.Learning.{tells_more}
 use Rattle.pl_watch.proofs.news.Change.tell_port.Goals as goal
 

@@ -1,6 +1,6 @@
 use Rattle.std.specs.List.{flat_map}
 use Rattle.pl_watch.specs.News.{groups_in, part_ends, part_news}
-use Rattle.pl_watch.specs.Telling.{node_in}
+use Rattle.pl_log_lines.specs.Telling.{node_in}
 use Rattle.pl_watch.proofs.Learning.{tells_more}
 use Rattle.pl_watch.proofs.news.Change.tell_trees.Goals as goal
 

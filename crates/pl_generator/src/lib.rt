@@ -13,6 +13,4 @@ mod drawing;
 mod hosts;
 mod script;
 mod shelf;
-#[cfg(test)]
-mod tests;
 mod topology;

@@ -13,8 +13,6 @@ pub use write::write_control;
 
 mod read;
 mod spelling;
-#[cfg(test)]
-mod tests;
 mod write;
 
 // The first byte of a payload.

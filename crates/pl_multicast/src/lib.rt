@@ -16,6 +16,4 @@ mod checksum;
 mod group;
 mod reading;
 mod record;
-#[cfg(test)]
-mod tests;
 mod writing;

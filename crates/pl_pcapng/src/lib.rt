@@ -25,8 +25,6 @@ mod kind;
 mod laws;
 mod packets;
 mod sections;
-#[cfg(test)]
-mod tests;
 
 pub use error::BlockError;
 pub use laws::{one_at_each_position, one_reading, records_are_within};

@@ -208,6 +208,3 @@ impl<T> Pool<T> {
         Ok(())
     }
 }
-
-#[cfg(test)]
-mod tests;

@@ -13,6 +13,4 @@ mod iter;
 mod lists;
 mod queues;
 mod tally;
-#[cfg(test)]
-mod tests;
 mod words;

@@ -31,6 +31,3 @@ pub use writing::{append, save};
 
 // The name of standard output.
 const STANDARD_OUTPUT: &str = "-";
-
-#[cfg(test)]
-mod tests;

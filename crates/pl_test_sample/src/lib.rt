@@ -20,6 +20,4 @@ mod one_frame;
 mod pod_asker;
 mod pod_giver;
 mod silent;
-#[cfg(test)]
-mod tests;
 mod two_ports;

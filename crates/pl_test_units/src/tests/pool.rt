@@ -1,6 +1,7 @@
 ghost use Rattle.std.specs.Prelude.{◌≤◌, length};
 
-use super::*;
+use pl_pool::{Key, Memory, Pool};
+use std::alloc::Global;
 use std::test::Fail;
 
 #[test]

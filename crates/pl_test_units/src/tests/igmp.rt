@@ -1,6 +1,6 @@
-use crate::{Change, FLOOD, group_of, read_igmp, write_igmp};
 use pl_arp::Me;
 use pl_frame::{Ip4, Mac};
+use pl_multicast::{Change, FLOOD, group_of, read_igmp, write_igmp};
 use std::alloc::Global;
 use std::test::Fail;
 

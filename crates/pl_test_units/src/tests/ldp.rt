@@ -1,6 +1,6 @@
-use super::*;
 use pl_frame::SwitchId;
 use pl_layouts::Place;
+use pl_ldp::{Control, Ldm, Proposal, Vote, read_control, write_control};
 use std::test::Fail;
 
 const ID: SwitchId = SwitchId(0x0102_0304_0506);

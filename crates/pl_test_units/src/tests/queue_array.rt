@@ -1,6 +1,6 @@
 ghost use Rattle.std.specs.Prelude.{◌<◌, length};
 
-use crate::{BitSet, CountedQueues};
+use pl_queue_array::{BitSet, CountedQueues};
 use pl_queues::Counted;
 use std::test::Fail;
 

@@ -1,4 +1,4 @@
-use crate::{DiskShelf, LoadError, SaveError, Shelf, append, load, save};
+use pl_shelf::{DiskShelf, LoadError, SaveError, Shelf, append, load, save};
 use std::alloc::Global;
 use std::test::Fail;
 use std::{env, fs, process};

@@ -1,4 +1,4 @@
-use crate::{Sections, is_pcapng};
+use pl_pcapng::{Sections, is_pcapng};
 use std::test::Fail;
 
 const SECTION: [u8; 28] = [

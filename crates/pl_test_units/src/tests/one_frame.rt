@@ -1,8 +1,8 @@
-use crate::OneFrame;
 use pl_arp::Me;
 use pl_frame::{Ip4, Mac};
 use pl_lists::Items;
 use pl_node::{HostLogic, HostOutbox};
+use pl_test_sample::OneFrame;
 use std::test::Fail;
 
 const ME: Me = Me {

@@ -1,4 +1,4 @@
-use crate::{MemoryShelf, generate};
+use pl_generator::{MemoryShelf, generate};
 use std::test::Fail;
 
 // Four ports, and two frames that are drawn from 1: from h12 to h4, and from h9 to h11.

@@ -1,0 +1,17 @@
+mod addresses;
+mod arp_cache;
+mod arp_packet;
+mod disk_shelf;
+mod ethernet;
+mod generator;
+mod igmp;
+mod items;
+mod ldp;
+mod one_frame;
+mod pcapng;
+mod pmac;
+mod pool;
+mod port_set;
+mod queue;
+mod queue_array;
+mod rising;

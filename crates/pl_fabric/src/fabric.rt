@@ -33,8 +33,8 @@ fn has_reports<S: SwitchLogic, M: ManagerLogic, H: HostLogic>(world: &World<S, M
 }
 
 /// Whether the fabric is settled: nothing would change what its switches and its manager know of places
-/// and links. Takes no memory. What waits in queues is asked first, by a count that is kept; then each
-/// port, record and list is looked at once.
+/// and links. Takes no memory. Asked first is whether a report is missing, and by a count that is kept what
+/// waits in queues; then each port, record and list is looked at once.
 pub fn settled<S: SwitchLogic, M: ManagerLogic, H: HostLogic>(world: &World<S, M, H>) -> bool
     requires { IsCounted world.now }
     ensures { IsTrue result ↔ IsSettled world.now }

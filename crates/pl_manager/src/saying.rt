@@ -80,7 +80,8 @@ pub(crate) fn note_aged(
     aged: &mut Vec<Pmac>,
 ) -> Result<(), Memory>
     ensures learnt { OnOk result (registry.new ≡ noted_aged epoch registry.old switch pmac number (known_at registry.old pmac)) }
-    ensures aged { OnOk result (aged.new.items ≡ (if counts_as epoch number (known_at registry.old pmac) then aged.old.items ++ pmac ∷ [] else aged.old.items)) }
+    ensures aged { OnOk result (aged.new.items
+        ≡ (if counts_as epoch number (known_at registry.old pmac) then aged.old.items ++ pmac ∷ [] else aged.old.items)) }
 {
     if registry.note_aged(switch, pmac, number, epoch)? {
         aged.push(pmac)?;

@@ -3,7 +3,7 @@
     python3 tests/verify/wrong.py DIR
 
 writes DIR/NAME/journal.txt and DIR/NAME/topology.toml for each case, and DIR/verdicts with a line `NAME VERDICT` for
-each. The verdict is that of the row of the lossy switch which the change breaks (docs/RULES.md, "The lossy switch"), and the
+each. The verdict is that of the row of the lossy switch which the change breaks (docs/ARCHITECTURE.md, "The lossy switch"), and the
 line is the one that is changed: it does not come of the program. Every line of a journal is one entry.
 """
 

@@ -87,7 +87,7 @@ pub fn links_are_told_in_every_run<H: HostLogic>()
     ensures { InEveryRun Loose whole_rule H.rule (λ new. HaveToldLinks (due_plane (control_plane new))) }
 {}
 
-/// Where no report waits, the usable pairs of the records are what both ends would tell now.
+/// Where no report and no order waits, the usable pairs of the records are what both ends would tell now.
 pub fn usable_pairs_are_current_at_rest()
     ensures { (plane : ControlPlane) → IsPlan plane.plan → GathersWell plane → HaveToldLinks (due_plane plane) → NoReportWaits plane → LinksAreCurrent plane }
 {}
@@ -98,7 +98,7 @@ pub fn links_to_neighbours_alone_are_told_usable_in_every_run<H: HostLogic>()
     ensures { InEveryRun Loose whole_rule H.rule (λ new. HaveToldNeighbours (due_plane (control_plane new))) }
 {}
 
-/// So where no report waits, each usable link of the records is one of the wiring.
+/// So where no report and no order waits, each usable link of the records is one of the wiring.
 pub fn usable_links_are_those_of_the_wiring_at_rest()
     ensures { (plane : ControlPlane) → IsPlan plane.plan → GathersWell plane → HaveToldNeighbours (due_plane plane) → NoReportWaits plane →
         LinksAreOfNeighbours plane }

@@ -53,8 +53,8 @@ pub fn a_change_is_seen()
     ensures part { (x y : Option TreePart) → IsTrue (same_part x y) ↔ (x ≡ y) }
 {}
 
-/// Addresses are given the numbers 1, 2, 3 and so on in the order in which they are learnt; one that was
-/// released is given another when it is learnt again. Each is registered once.
+/// In the first epoch addresses are given the numbers 1, 2, 3 and so on in the order in which they are learnt; one
+/// that was released is given another when it is learnt again. Each is registered once.
 pub fn addresses_are_numbered_in_order()
     ensures numbers { (k : ℕ) (words : List Word) → reverse (map (λ r. r.number) (numbered k words))
         ≡ range_with_len 1 (known k words).learnt.count }
@@ -80,7 +80,7 @@ pub fn the_manager_answers_duly()
     ensures whole { AnswersDuly whole_rule }
 {}
 
-/// What the manager knows is in order from the beginning, and stays so with all that it hears.
+/// What the manager knows is in order from the beginning, and stays so with all that it hears in one epoch.
 pub fn what_is_known_stays_in_order()
     ensures boots { (k : ℕ) → TablesAreInOrder (booted_manager k) }
     ensures stays { (view : ManagerView) (s : SwitchId) (says : ToManager) →
@@ -88,8 +88,8 @@ pub fn what_is_known_stays_in_order()
     ensures reached { (k : ℕ) (words : List Word) → TablesAreInOrder (known k words) }
 {}
 
-/// A word that a switch told last already changes nothing that is known and brings no act about: only a
-/// wish for a pod and a question are answered again. And each word but that an address has aged is told last
+/// In one epoch a word that a switch told last already changes nothing that is known and brings no act about: only
+/// a wish for a pod and a question are answered again. And each word but that an address has aged is told last
 /// once it was heard.
 pub fn a_repeated_word_changes_nothing()
     ensures nothing { (view : ManagerView) (s : SwitchId) (says : ToManager) → TablesAreInOrder view → HasToldLast view s says →
@@ -115,7 +115,7 @@ pub fn the_first_epoch_goes_by_the_rule_of_one()
         (manager_hears view s says).view.learnt.reported ≡ view.learnt.reported }
 {}
 
-/// What the manager knows, however long its history, is the last that was said of each place, link and group;
+/// What the manager knows in the first epoch, however long, is the last that was said of each place, link and group;
 /// the pods, each the smallest that was free when its switch first asked; the addresses that were given numbers and not released since; of each
 /// the IPv4 address that was said last with it since then; the host of the address with which an IPv4 address
 /// was told last; and as the newest address of a host the last of it that was given a number, unless that was

@@ -43,10 +43,10 @@ def behind_edge(data, source):
     return bytes(inner)
 
 
-def source_at(state, host, edge):
-    """The pseudo address that a host has at an edge switch, the last that was granted; None where it has none."""
-    found = [address for address, (name, switch, _) in state.granted.items() if (name, switch) == (host, edge)]
-    return mac_bytes(found[-1]) if found else None
+def source_at(state, host, edge, port):
+    """The pseudo address with which a host sends at a port of an edge switch; None where it has none there."""
+    found = state.in_use.get((host, edge, port))
+    return mac_bytes(found) if found else None
 
 
 class Forwarding:

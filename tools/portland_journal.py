@@ -173,6 +173,7 @@ class State:
         self.failed = set()  # of links, each by its two ends in both orders
         self.spots = {host.name: (host.edge, host.port) for host in fabric.hosts}
         self.granted = {}  # for each pseudo address that is live the host, the edge switch and the port that it was granted for
+        self.in_use = {}  # for each host, edge switch and port of a grant the address with which it sends there, the last one granted
         self.addresses = {host.name: [] for host in fabric.hosts}  # for each host those that the manager knows, the newest last
         self.is_settled = False  # as of the last `settle` line, and no link failed, host moved or manager began anew since
 
@@ -181,12 +182,17 @@ class State:
         if kind == "placed":
             self.places[entry.switch] = Place(entry.level, entry.position, entry.pod)
         elif kind == "granted":
-            self.granted[entry.address] = entry.host, entry.switch, entry.port
+            place = entry.host, entry.switch, entry.port
+            self.granted[entry.address] = place
+            self.in_use[place] = entry.address
         elif kind == "registered":
             if entry.address in self.granted:
                 self.addresses[self.granted[entry.address][0]].append(entry.address)
         elif kind == "freed":
-            host = self.granted.pop(entry.address)[0]
+            place = self.granted.pop(entry.address)
+            if self.in_use.get(place) == entry.address:
+                del self.in_use[place]
+            host = place[0]
             # an address that is older than one that was freed is not the newest again
             older = self.addresses[host].index(entry.address) + 1 if entry.address in self.addresses[host] else 0
             del self.addresses[host][:older]
@@ -237,6 +243,17 @@ class Run:
                 except Fault as fault:
                     raise Fault(f"{self.path}: {fault}") from None
         return built.frames
+
+    @cached_property
+    def receivers(self):
+        """For each frame that a host sent to a pseudo address, by its number, the host to which that one was granted last before."""
+        owners, found = {}, {}
+        for entry in self.of("granted", "sent"):
+            if entry.kind == "granted":
+                owners[entry.address] = entry.host
+            elif (to := entry.data[:6].hex(":")) in owners:
+                found[entry.frame] = owners[to]
+        return found
 
     def state(self, row=None):
         """The fabric once the journal was read up to a row, or to its end."""

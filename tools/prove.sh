@@ -1,8 +1,8 @@
 # shellcheck shell=sh disable=SC2154
 # The part of ./portland that proves: `portland prove` reads it, and calls `prove`. It stands on the wrapper's own
-# functions and names (tell, make_work, begin_ticking, stop_ticking; top, crate, program, work).
+# functions and names (tell, make_work; top, crate, program, work).
 
-# The crates below the program, each with those below it, the lowest first.
+# The program and the crates below it, each name on a line of its own.
 crates_below() {
     awk -v program="${crate##*/}" '
         { sub(/#.*/, "") }
@@ -11,66 +11,43 @@ crates_below() {
             if (seen[name]++) return
             n = split(of[name], parts, " ")
             for (i = 1; i <= n; i++) if (parts[i] in of) visit(parts[i])
-            line = name
-            for (i = 1; i <= n; i++) if (parts[i] in of) line = line " " parts[i]
-            print line
+            print name
         }
         END { visit(program) }' "$top/crates.txt"
 }
 
-# prove_below LOG: proves the crates below the program, as many at a time as there are processors (or PORTLAND_JOBS).
-prove_below() {
-    make_work
-    crates_below | grep -v "^${crate##*/} " >"$work/crates"
-    many=$(wc -l <"$work/crates")
-    jobs=${PORTLAND_JOBS:-$(nproc 2>/dev/null || echo 1)}
-    mkdir "$work/done" "$work/running" "$work/failed"
-    begun=$(date +%s)
-    tell "$many crates are proved first, $jobs at a time: some two hours of processor from nothing, minutes where this machine has proved them before"
-    while [ "$(ls "$work/done" | wc -l)" -lt "$many" ]; do
-        [ -z "$(ls "$work/failed")" ] || return 1
-        begin_crates "$1"
-        [ ! -t 2 ] || printf '%s of %s, %d s: %.40s \033[K\r' "$(ls "$work/done" | wc -l)" "$many" \
-            "$(($(date +%s) - begun))" "$(ls "$work/running" | tr '\n' ' ')" >&2
-        sleep "${PORTLAND_PAUSE:-1}"
+# take_crates ROOM: these crates as a repository of its own, without their must-fail edits. The kit's gate proves crates side by side
+# and takes what this machine has proved before; on the repository itself it would try each edit too, and prove tools and tests.
+take_crates() {
+    crates_below >"$work/crates"
+    mkdir -p "$1/.git" "$1/crates"
+    cp "$top/HANDLES" "$1" || return 1
+    awk 'NR == FNR { is[$1]; next } { name = $1; sub(/:.*/, "", name) } name in is' "$work/crates" "$top/crates.txt" >"$1/crates.txt"
+    tar -cf - -C "$top/crates" --exclude=out --exclude=must-fail -T "$work/crates" | tar -xf - -C "$1/crates"
+}
+
+# say_done LOG: says which crates were proved since it was called last.
+say_done() {
+    grep -E '^rt: [a-z_]+ (proved|is kept:.*)$' "$1" | cut -d ' ' -f 2 >"$work/now"
+    tail -n +"$(($(wc -l <"$work/done") + 1))" "$work/now" >"$work/new"
+    while read -r name; do
+        echo "$name" >>"$work/done"
+        tell "proved $name ($(wc -l <"$work/done") of $many)"
+    done <"$work/new"
+}
+
+# wait_for CHILD LOG: waits until it ended, and leaves its status.
+wait_for() {
+    began=$(date +%s)
+    : >"$work/done"
+    while kill -0 "$1" 2>/dev/null; do
+        say_done "$2"
+        [ ! -t 2 ] || printf '%s of %s, %d s \033[K\r' "$(wc -l <"$work/done")" "$many" "$(($(date +%s) - began))" >&2
+        sleep 1
     done
-}
-
-# begin_crates LOG: begins the crates whose lower ones are proved, while there are processors. Where there are fewer
-# crates than processors, each has its share of them.
-begin_crates() {
-    while read -r name below; do
-        [ ! -e "$work/done/$name" ] && [ ! -e "$work/running/$name" ] || continue
-        for other in $below; do
-            [ -e "$work/done/$other" ] || continue 2
-        done
-        echo "$name"
-    done <"$work/crates" >"$work/ready"
-    running=$(ls "$work/running" | wc -l)
-    share=$((jobs / ($(wc -l <"$work/ready") + running + 1)))
-    [ "$running" -gt 0 ] || [ "$(wc -l <"$work/ready")" -gt 1 ] || share=$jobs
-    while read -r name && [ "$running" -lt "$jobs" ]; do
-        : >"$work/running/$name"
-        running=$((running + 1))
-        prove_crate "$name" "$1" $((share > 1 ? share : 1)) &
-    done <"$work/ready"
-}
-
-# prove_crate NAME LOG JOBS
-prove_crate() {
-    (cd "$top/crates/$1" && exec rt lib --jobs "$3") >"$work/$1.log" 2>&1 </dev/null &
-    child=$!
-    # What runs beside is not stopped by the keyboard.
-    trap 'kill "$child"' TERM
-    if wait "$child"; then
-        : >"$work/done/$1"
-        tell "proved $1 ($(ls "$work/done" | wc -l) of $many)"
-    else
-        : >"$work/failed/$1"
-        tell "$1 could not be proved"
-    fi
-    cat "$work/$1.log" >>"$2"
-    rm -f "$work/running/$1"
+    wait "$1"
+    status=$?
+    say_done "$2"
 }
 
 prove() {
@@ -82,25 +59,20 @@ prove() {
     mkdir -p "$crate/out" && touch "$crate/out/begun" || exit 1
     : >"$log"
     tell "proves the program and builds it, once ($log)"
-    if ! prove_below "$log"; then
-        wait
+    make_work
+    take_crates "$work/room" || exit 1
+    many=$(wc -l <"$work/crates")
+    tell "$many crates are proved, side by side: over an hour of processor from nothing, minutes where this machine has proved them before"
+    # What runs beside is not stopped by the keyboard.
+    (cd "$work/room" && RT_JOBS=${PORTLAND_JOBS:-$(nproc 2>/dev/null || echo 1)} exec rt ci) >"$log" 2>&1 </dev/null &
+    wait_for $! "$log"
+    built=$work/room/crates/${crate##*/}/out/${crate##*/}
+    if [ $status -ne 0 ] || [ ! -x "$built" ]; then
         tell "the program could not be proved and built: see $log"
         exit 1
     fi
-    wait
-    tell "proves and builds the program itself"
-    begin_ticking "proves portland"
-    # rt builds a program by running it. Status 4, for the empty topology, is none that rt itself gives.
-    first=run
-    [ "${crate##*/}" = portland ] || first=
-    (cd "$crate" && rt run -- $first --topology /dev/null --script /dev/null --captures . --out .) \
-        >>"$log" 2>&1 </dev/null
-    status=$?
-    stop_ticking
-    if [ $status -ne 4 ] || [ ! -x "$program" ]; then
-        tell "the program could not be proved and built: see $log"
-        exit 1
-    fi
+    # Not into the file itself, which may be playing.
+    cp "$built" "$program.new" && mv "$program.new" "$program" || exit 1
     # What changes while it is built counts as newer.
     touch -r "$crate/out/begun" "$program"
     tell "proved and built"

@@ -17,7 +17,7 @@ crates_below() {
 }
 
 # take_crates ROOM: these crates as a repository of its own, without their must-fail edits. The kit's gate proves crates side by side
-# and takes what this machine has proved before; on the repository itself it would try each edit too, and prove tools and tests.
+# and takes what this machine has proved before; on the repository itself it would try each edit too, and prove crates of tests.
 take_crates() {
     crates_below >"$work/crates"
     mkdir -p "$1/.git" "$1/crates"
@@ -28,7 +28,7 @@ take_crates() {
 
 # say_done LOG: says which crates were proved since it was called last.
 say_done() {
-    grep -E '^rt: [a-z_]+ (proved|is kept:.*)$' "$1" | cut -d ' ' -f 2 >"$work/now"
+    grep -E '^rt: [a-z0-9_]+ (proved|is kept:.*)$' "$1" | cut -d ' ' -f 2 >"$work/now"
     tail -n +"$(($(wc -l <"$work/done") + 1))" "$work/now" >"$work/new"
     while read -r name; do
         echo "$name" >>"$work/done"

@@ -76,13 +76,18 @@ CASES = [
     # a frame that has ended, or has not begun, crosses nothing
     illegal("crosses-before-it-begins", "move", 66, put("crossed 8 e0.0")),
     illegal("crosses-after-it-arrived", "move", 94, put("crossed 13 e1.0")),
-    # legs: linked switches, all different, up and then down, at most five, by links that are live
+    # legs of frames to one host: linked switches, all different, up and then down, at most five, by links that are live
     illegal("crosses-a-switch-that-is-not-linked", "move", 89, swap("a0.0", "a1.0")),
     illegal("crosses-a-switch-twice", "move", 89, put("crossed 13 e0.0")),
     illegal("goes-up-again", "move", 77, put("crossed 10 a0.1")),
     illegal("a-leg-of-six", "move", 93, put("crossed 13 a1.1")),
     illegal("crosses-a-failed-link", "repaired", 103, swap("a0.1", "a0.0")),
     illegal("crosses-a-link-repaired-since", "link-fails-with-frames", 108, put("crossed 15 a0.0")),
+    # a frame to a group may fall through switches that it rose through, and no more
+    illegal("a-copy-rises-again", "group", 114, put("crossed 16 c1.1")),
+    illegal("a-copy-rises-behind-an-edge-switch", "group", 116, put("crossed 16 a0.0")),
+    illegal("a-copy-crosses-a-switch-that-is-not-linked", "group", 113, swap("a1.1", "a1.0")),
+    illegal_last("a-copy-crosses-a-link-repaired-since", "group", 113, ["linkdown a1.1 c1.1", "linkup a1.1 c1.1", "crossed 17 a1.1"]),
     # a frame goes on to a newer address of the same host, at the edge switch of its present one
     illegal("redirected-from-an-address-that-is-not-its-own", "move", 115, swap("00:01:00:00:00:01", "00:00:00:00:00:01")),
     illegal("redirected-to-another-host", "move", 115, swap("00:01:01:00:01", "00:00:00:00:01")),

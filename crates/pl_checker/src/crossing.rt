@@ -26,9 +26,6 @@ impl Past {
         let Some(row) = self.frames.flying(id) else {
             return false;
         };
-        if row.carried.group.is_some() {
-            return true;
-        }
         self.goes_well(wiring, &row, s)
     }
 
@@ -37,7 +34,8 @@ impl Past {
         ensures { (text : List ℕ) (past : List Entry) (frame : Kept) → KeepsLinks past self.now.links → IsRow text row.now frame →
             result ≡ goes_well_by wiring.now (live_since past) frame s.0 }
     {
-        let good = row.leg.goes_on_to(wiring.k(), s);
+        let to_group = row.carried.group.is_some();
+        let good = row.leg.goes_on_to(to_group, wiring.k(), s);
         let led = self.leads(wiring, row.leg.last(), s, row.crossed);
         good && led
     }

@@ -14,19 +14,19 @@ use Rattle.pl_journal.specs.Flights.{is_good_leg}
 use Rattle.pl_journal.specs.Lossy.{Run, joined_after}
 
 -- Of e0.0, a0.0, c0.0, a1.0, e1.0: at most five, up and then down.
-five_switches : is_good_leg 4 (2 ∷ 10 ∷ 16 ∷ 8 ∷ 0 ∷ []) ≡ true
+five_switches : is_good_leg false 4 (2 ∷ 10 ∷ 16 ∷ 8 ∷ 0 ∷ []) ≡ true
 five_switches = refl
 
-six_switches : is_good_leg 4 (2 ∷ 10 ∷ 16 ∷ 17 ∷ 8 ∷ 0 ∷ []) ≡ false
+six_switches : is_good_leg false 4 (2 ∷ 10 ∷ 16 ∷ 17 ∷ 8 ∷ 0 ∷ []) ≡ false
 six_switches = refl
 
-two_of_one_level : is_good_leg 4 (1 ∷ 0 ∷ []) ≡ false
+two_of_one_level : is_good_leg false 4 (1 ∷ 0 ∷ []) ≡ false
 two_of_one_level = refl
 
-down_and_up : is_good_leg 4 (8 ∷ 0 ∷ 9 ∷ []) ≡ false
+down_and_up : is_good_leg false 4 (8 ∷ 0 ∷ 9 ∷ []) ≡ false
 down_and_up = refl
 
-one_twice : is_good_leg 4 (0 ∷ 8 ∷ 0 ∷ []) ≡ false
+one_twice : is_good_leg false 4 (0 ∷ 8 ∷ 0 ∷ []) ≡ false
 one_twice = refl
 
 -- of two changes for a group the last counts, whatever was before

@@ -238,3 +238,30 @@ no_copy_arrives_at_a_host_that_left run = false≢true run.1.1.member
 no_frame_to_one_host_is_copied : ¬ Run two_pods (then at_old_place (Copied 4 5))
 unfolding decode_pairs
 no_frame_to_one_host_is_copied run = false≢true run.1.1
+
+-- a's frame to the group rises to a core switch, where it is copied
+abbrev pub a_to_group : List ℕ
+a_to_group = bytes_of (codes "01005e01020302000000000a88b6") ++ replicate 46 0
+
+abbrev pub at_core : List Entry
+at_core = d_moved ++ Sent 4 a a_to_group ∷ Crossed 4 e00 ∷ Crossed 4 a00 ∷ Crossed 4 c00 ∷ Copied 4 5 ∷ []
+
+-- the copy falls through switches that it rose through
+a_copy_falls_where_it_rose : GoodTrail two_pods (at_core ++ Crossed 4 a10 ∷ Crossed 5 a00 ∷ Crossed 5 e00 ∷ [])
+unfolding decode_pairs
+a_copy_falls_where_it_rose =
+    tt ▸ tt ▸ tt ▸ tt ▸ refl ▸ tt ▸ tt ▸ refl ▸ tt ▸ tt ▸ tt ▸ tt ▸ tt ▸ tt ▸ tt ▸ refl ▸ tt ▸ tt ▸ tt
+    ▸ tt ▸ refl ▸ refl ▸ refl ▸ tt ▸ refl ▸ refl ▸ refl
+
+no_copy_rises_again : ¬ GoodTrail two_pods (at_core ++ Crossed 5 a00 ∷ Crossed 5 e00 ∷ Crossed 5 a01 ∷ [])
+unfolding decode_pairs
+no_copy_rises_again trail = false≢true trail.1
+
+no_copy_comes_over_no_link : ¬ GoodTrail two_pods (at_core ++ Crossed 5 a01 ∷ [])
+unfolding decode_pairs
+no_copy_comes_over_no_link trail = false≢true trail.1
+
+-- the link failed while the copy was on it, and was repaired
+no_copy_comes_over_a_link_that_failed : ¬ GoodTrail two_pods (at_core ++ LinkDown a00 c00 ∷ LinkUp a00 c00 ∷ Crossed 5 a00 ∷ [])
+unfolding decode_pairs
+no_copy_comes_over_a_link_that_failed trail = false≢true trail.1

@@ -224,9 +224,10 @@ abbrev pub are_different : List ℕ → Bool
 are_different [] = true
 are_different (s ∷ switches) = not (list_any (λ t. t == s) switches) && are_different switches
 
--- at most five switches, all different, whose levels rise and then fall
-abbrev pub is_good_leg : ℕ → List ℕ → Bool
-is_good_leg k switches = nat_le (length switches) 5 && are_different switches && rises_and_falls k switches
+-- At most five switches whose levels rise and then fall. Those of a frame to one host are all different; a frame to a group may fall through
+-- switches that it rose through.
+abbrev pub is_good_leg : Bool → ℕ → List ℕ → Bool
+is_good_leg to_group k switches = nat_le (length switches) 5 && (to_group || are_different switches) && rises_and_falls k switches
 
 -- the switch is linked to the one that the frame crossed before it, by a link that was live all the while
 abbrev pub is_led_to : Plan → List Entry → ℕ → List ℕ → ℕ → Bool

@@ -75,7 +75,7 @@ is_turning (s ∷ switches) redirected (Some there) = s == there.edge
 
 -- the leg goes on well to this switch
 abbrev pub goes_well : Plan → List Entry → ℕ → List ℕ → ℕ → Bool
-goes_well plan past id switches s = is_good_leg plan.k (s ∷ switches) && is_led_to plan past id switches s
+goes_well plan past id switches s = is_good_leg (goes_to_group past id) plan.k (s ∷ switches) && is_led_to plan past id switches s
 
 -- a frame to one host: the frame is for the host, which stands where the frame's present address was granted, and the frame has come to that
 -- edge switch
@@ -154,9 +154,9 @@ RunTo plan (entry ∷ past) = RunTo plan past × Needs plan past entry
 abbrev pub Run : Plan → List Entry → Type 0
 Run plan journal = RunTo plan (reverse journal)
 
--- A crossing of a frame to one host goes on with a good leg, over a link that was live from the crossing before it.
+-- A crossing goes on with a good leg, over a link that was live from the crossing before it.
 abbrev pub CrossesWell : Plan → List Entry → Entry → Type 0
-CrossesWell plan past (Crossed id s) = IsTrue (goes_to_group past id || goes_well plan past id (leg past id) s.0)
+CrossesWell plan past (Crossed id s) = IsTrue (goes_well plan past id (leg past id) s.0)
 CrossesWell plan past entry = Unit {0}
 
 abbrev pub GoodTrailTo : Plan → List Entry → Type 0

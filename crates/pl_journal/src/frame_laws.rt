@@ -60,29 +60,27 @@ pub fn a_frame_begins_with_an_empty_trail()
         flight_of plan (Copied id copy ∷ past) other ≡ flight_of plan past other }
 {}
 
-/// In a run with good trails the leg of each frame to one host is good at every moment, and its
-/// neighbours are linked.
+/// In a run with good trails the leg of each frame is good at every moment, and its neighbours are
+/// linked.
 pub fn legs_are_good()
     ensures good { (plan : Plan) (past : List Entry) (id : ℕ) → RunTo plan past →
-        GoodTrailTo plan past → IsFalse (goes_to_group past id) →
-        IsTrue (is_good_leg plan.k (leg past id)) }
+        GoodTrailTo plan past →
+        IsTrue (is_good_leg (goes_to_group past id) plan.k (leg past id)) }
     ensures adjacent { (plan : Plan) (past : List Entry) (id : ℕ) → RunTo plan past →
-        GoodTrailTo plan past → IsFalse (goes_to_group past id) →
-        IsTrue (are_adjacent plan (leg past id)) }
+        GoodTrailTo plan past → IsTrue (are_adjacent plan (leg past id)) }
 {}
 
-/// In a run with good trails a frame to one host comes from the last switch of its leg to the next
-/// one by a link of the wiring, and that link was live at each moment since the frame crossed the
-/// last switch.
+/// In a run with good trails a frame comes from the last switch of its leg to the next one by a link
+/// of the wiring, and that link was live at each moment since the frame crossed the last switch.
 pub fn the_links_of_a_leg_were_live()
     ensures adjacent { (plan : Plan) (newer past : List Entry) (id last : ℕ) (next : SwitchNo)
         (earlier : List ℕ) →
-        GoodTrailTo plan (newer ++ Crossed id next ∷ past) → IsFalse (goes_to_group past id) →
+        GoodTrailTo plan (newer ++ Crossed id next ∷ past) →
         leg past id ≡ last ∷ earlier → IsTrue (is_adjacent plan last next.0) }
     ensures live { (plan : Plan) (newer since past : List Entry) (id last : ℕ) (next : SwitchNo)
         (earlier : List ℕ) →
         RunTo plan (newer ++ Crossed id next ∷ (since ++ past)) →
         GoodTrailTo plan (newer ++ Crossed id next ∷ (since ++ past)) →
-        IsFalse (goes_to_group (since ++ past) id) → leg (since ++ past) id ≡ last ∷ earlier →
+        leg (since ++ past) id ≡ last ∷ earlier →
         IsFalse (has_crossed since id) → IsFalse (is_failed past last next.0) }
 {}

@@ -14,7 +14,7 @@ pub fn a_run_goes_on()
         Run plan journal × Needs plan (reverse journal) entry }
 {}
 
-/// The same of journals in which each frame to one host has a good trail.
+/// The same of journals in which each frame has a good trail.
 pub fn a_good_trail_goes_on()
     ensures begins { (plan : Plan) → GoodTrail plan [] }
     ensures goes_on { (plan : Plan) (journal : List Entry) (entry : Entry) →

@@ -111,7 +111,7 @@ pub fn settle<S: LooseSwitch, M: LawfulManager, H: LawfulHost>(
     requires moment { IsOfRun S.rule M.rule H.rule world.old }
     ensures settles { IfOk result (λ answer. Settles S.rule M.rule H.rule rounds world.old answer world.new) }
     ensures refused { IfErr result (λ reason. UnlessMemory reason (GoesRounds S.rule M.rule H.rule rounds world.old (Some reason) world.new)) }
-    ensures placed { IfOk result (λ answer. (used : ℕ) → answer ≡ Settled used → world.new.steps < 4294967295 → (pod : ℕ) → IsWholePod world.new pod → ReceiversArePlaced world.new pod) }
+    ensures placed { IfOk result (λ answer. (used : ℕ) → answer ≡ Settled used → (pod : ℕ) → IsWholePod world.new pod → ReceiversArePlaced world.new pod) }
     ensures registered { IfOk result (λ answer. (used : ℕ) → answer ≡ Settled used → used < rounds → AreRegistered world.new) }
     ensures orderly { EndsAs result (λ _. CanStep world.new) }
     ensures moment { EndsAs result (λ _. IsOfRun S.rule M.rule H.rule world.new) }

@@ -87,12 +87,6 @@ served_registered w counted a h host attachment v is attachments at whole up dow
             used = served.used;
             by_host = served.mac;
             at_port = served.at_port;
-            knows_ip = record {
-              told = reg;
-              found = ap (λ x. registration w.manager.learnt x) name ∙ known;
-              for_host = (a.addressed.registry.newest_is host.mac reg newest_is).0;
-              with_ip = ap (λ x. ip_of w.manager.learnt x) name ∙ with_ip;
-            };
           };
           at_edge = served.ip;
           at_manager = with_ip;

@@ -1,4 +1,5 @@
 pub mod Lives
+pub mod ToldInReports
 pub mod Treated
 pub mod Staying
 pub mod Changing

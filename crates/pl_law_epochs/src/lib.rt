@@ -14,6 +14,7 @@ pub use plane_laws::{
 pub use situation_laws::{
     what_a_restart_does_leaves_an_address_in_a_situation,
     what_a_switch_does_leaves_an_address_in_a_situation,
+    what_is_heard_of_an_unknown_address_is_reported,
     what_the_manager_does_leaves_an_address_in_a_situation,
 };
 pub use trap_laws::{

@@ -1,9 +1,9 @@
-ghost use Rattle.std.specs.Prelude.{◌≡◌, ◌<◌, Bool, false, true, List, [], ◌∷◌, ◌++◌, None, Option, Some};
+ghost use Rattle.std.specs.Prelude.{◌≡◌, ◌<◌, ℕ, Bool, false, true, List, [], ◌∷◌, ◌++◌, None, Option, Some};
 ghost use Rattle.pl_node.specs.ManagerViews.{Recall};
 ghost use Rattle.pl_law_epochs.specs.Tenures.{Said, Tenure, treats};
 ghost use Rattle.pl_law_epochs.specs.Tenures.Knowledge.{Knows, Nothing};
 ghost use Rattle.pl_law_epochs.specs.Tenures.Order.{Recalls, Releases};
-ghost use Rattle.pl_law_epochs.specs.Tenures.Said.{Ages, Learns};
+ghost use Rattle.pl_law_epochs.specs.Tenures.Said.{Ages, Learns, Traps};
 ghost use Rattle.pl_law_epochs.specs.Tenures.Use.{Leads, Nobodys, Rests, Serves};
 ghost use Rattle.pl_law_epochs.specs.Situations.{IsIn, reported};
 
@@ -37,4 +37,14 @@ pub fn what_a_restart_does_leaves_an_address_in_a_situation()
         IsIn true (record { use_is = t.use_is; due = []; orders = []; known = Nothing; silent = true }) }
     ensures greeted { (later : Bool) (t : Tenure) → IsIn later t → t.silent ≡ true →
         IsIn later (record t { due = reported t.use_is; orders = []; silent = false }) }
+{}
+
+/// What the manager hears of an address of which it knows nothing, beside that the address is told, its switch says in a
+/// report. It hears of a trap in a later epoch than the first alone, and of an address of which it knows nothing. That an
+/// unknown address has aged it hears in a later epoch alone, of one that rests at its switch, and nothing else is due of it.
+pub fn what_is_heard_of_an_unknown_address_is_reported()
+    ensures traps { (later : Bool) (t : Tenure) (to : Recall) (due : List Said) → IsIn later t → t.silent ≡ false → t.due ≡ Traps to ∷ due →
+        (later ≡ true) × (t.known ≡ Nothing) }
+    ensures ages { (later : Bool) (t : Tenure) (number : ℕ) (due : List Said) → IsIn later t → t.silent ≡ false → t.known ≡ Nothing →
+        t.due ≡ Ages number ∷ due → (later ≡ true) × (due ≡ []) × (t.use_is ≡ Rests number) }
 {}

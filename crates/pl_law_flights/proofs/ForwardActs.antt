@@ -2,7 +2,7 @@
 use Rattle.std.proofs.Common.{◌⊎◌, inl, inr, ◌≡◌, ℕ, ◌==◌, ◌&&◌, ◌||◌, not, Bool, true, false, if◌then◌else◌, List, [], ◌∷◌, map, Option, None, Some, is_none, refl, sym, ◌∙◌, ap, subst}
 use Rattle.std.specs.List.{AllByRecursion, IsAmong, filter}
 use Rattle.std.specs.Option.{unwrap_or}
-use Rattle.std.proofs.lemmas.Bool.{and_from, and_parts, both_ways, cases_Bool, cond-false, cond-true, cond_both, eq-eqb, eqb-true, false≢true, not-false, not-true, or_parts}
+use Rattle.std.proofs.lemmas.Bool.{and_from, and_parts, both_ways, cases_Bool, cond_both, eq-eqb, eqb-true, false≢true, not-false, not-true, or_parts}
 use Rattle.pl_frame.specs.Ethernet.{destination_of, source_of}
 use Rattle.pl_pmac.specs.declared.pmac.Pmac.{Pmac}
 use Rattle.pl_pmac.specs.Pmac.{PmacFits, mac_of, pmac_number, pmac_of}
@@ -32,7 +32,7 @@ use Rattle.pl_switch_rule.specs.declared.came.Came.{Came}
 use Rattle.pl_switch_rule.specs.Delivering.{arrives_home, destination}
 use Rattle.pl_switch_rule.specs.Forwarding.{Choice, candidates, candidates_by, came_by, is_candidate, leaves_by}
 use Rattle.pl_switch_rule.specs.Granting.{is_local}
-use Rattle.pl_switch_rule.specs.GroupForwarding.{at_most_one, destination_group, forwards_group, group_ports, is_reached, is_source, passes_or_drops, way_of}
+use Rattle.pl_switch_rule.specs.GroupForwarding.{destination_group, forwards_group, group_ports, is_reached, is_source, passes_or_drops, way_of}
 use Rattle.pl_switch_rule.specs.SwitchRule.{IsChoice, comes_from_switch}
 use Rattle.pl_switch_rule.proofs.Exports.{candidate_usable}
 use Rattle.pl_law_copies.specs.Standing.{KnowsTree}
@@ -123,6 +123,7 @@ module _ (plan : Plan) (place : ℕ → Place) (history : AddressHistory) (t : �
       is_group (destination_of frame) ≡ true → MayLeave plan place history t p peer (crossed_at t f) frame
   may_spread p (Switch u r) is may on group = record {
     last = refl;
+    whole = refl;
     group = b.group;
     kept = b.kept;
     address = b.address;
@@ -171,6 +172,7 @@ module _ (plan : Plan) (place : ℕ → Place) (history : AddressHistory) (t : �
       MayLeave plan place history t p peer (crossed_at t f) frame
   may_leave came p (Switch u r) by placed leads peer linked one_host = record {
     last = refl;
+    whole = refl;
     group = b.group;
     kept = b.kept;
     address = b.address;
@@ -179,7 +181,6 @@ module _ (plan : Plan) (place : ℕ → Place) (history : AddressHistory) (t : �
     rises = λ group. absurd (both_ways (is_group (destination_of frame)) one_host group);
     one = λ unicast. let w = b.one unicast in record {
       route = passes_on plan place t v is_plan places knows (destination frame) p u r peer s q port came from by placed leads f.leg w.route;
-      whole = refl;
       unaltered = w.unaltered;
       sender = w.sender;
     };

@@ -1,6 +1,8 @@
 -- By which ports a frame of a group goes on: it rises to a core switch, and then falls.
-use Rattle.std.proofs.Common.{◌⊎◌, inl, inr, ◌≡◌, ℕ, ◌<◌, ◌+◌, ◌&&◌, not, Bool, true, false, List, [], ◌∷◌, refl, sym, ◌∙◌, ap, subst, arith}
+use Rattle.std.proofs.Common.{◌⊎◌, inl, inr, ◌≡◌, ℕ, ◌<◌, ◌+◌, ◌&&◌, Bool, true, false, List, [], ◌∷◌, refl, sym, ◌∙◌, ap, ap₂, nat_le, nat_lt, if◌then◌else◌, length, Some, subst, arith}
 use Rattle.std.specs.List.{AllByRecursion, filter}
+use Rattle.std.proofs.Math.ListN.{length-map}
+use Rattle.std.proofs.lemmas.Option.{same_Some}
 use Rattle.std.proofs.lemmas.Bool.{and_parts, cases_Bool, cond-false, cond-true, false≢true}
 use Rattle.pl_pmac.specs.declared.pmac.Pmac.{Pmac}
 use Rattle.pl_wiring.specs.declared.label.Label.{Label}
@@ -11,7 +13,7 @@ use Rattle.pl_wiring.specs.declared.link.Peer.TheVariants.{HostPort, Switch}
 use Rattle.pl_wiring.specs.Labels.{label_of}
 use Rattle.pl_wiring.specs.Peers.{peer_of}
 use Rattle.pl_wiring.specs.Plan.{IsPlan, Plan}
-use Rattle.pl_journal.specs.Flights.{label_level, level_of}
+use Rattle.pl_journal.specs.Flights.{falls, first_of, is_good_leg, label_level, level_of, rises_and_falls}
 use Rattle.pl_journal.specs.Places.{is_host_port}
 use Rattle.pl_node.specs.PortRecords.{id_at, is_usable, place_at, ports_of_switch}
 use Rattle.pl_node.specs.SwitchFacts.{part_of}
@@ -19,7 +21,7 @@ use Rattle.pl_node.specs.SwitchViews.{SwitchView}
 use Rattle.pl_switch_rule.specs.declared.came.Way.{Way}
 use Rattle.pl_switch_rule.specs.declared.came.Way.TheVariants.{Down, Nowhere, ToHosts, Up}
 use Rattle.pl_switch_rule.specs.Forwarding.{came_by}
-use Rattle.pl_switch_rule.specs.GroupForwarding.{at_most_one, group_ports, is_down, is_reached, is_source, is_up, way_of}
+use Rattle.pl_switch_rule.specs.GroupForwarding.{at_most_one, group_ports, is_down, is_up, way_of}
 use Rattle.pl_law_copies.specs.Standing.{KnowsTree}
 use Rattle.pl_law_copies.proofs.Exports.{above, below, for_hosts, GoesBy, named_down, ways}
 use Rattle.pl_law_counts.proofs.Exports.{Rung, rung}
@@ -55,6 +57,54 @@ link_levels plan s q t p is peer = by (rung plan is s q t p peer)
     by (UpToCore a j m here there) = ToCore (at s (Aggregation a j) here) (at t.0 (Core j m) there)
     by (DownFromCore a j m here there) = FromCore (at s (Core j m) here) (at t.0 (Aggregation a j) there)
     by (DownToEdge a i j here there) = ToEdge (at s (Aggregation a j) here) (at t.0 (Edge a i) there)
+
+-- the levels of a leg rise and then fall, said of the levels alone
+abbrev fall_down : List ℕ → Bool
+fall_down [] = true
+fall_down (a ∷ []) = true
+fall_down (a ∷ b ∷ rest) = nat_lt b a && fall_down (b ∷ rest)
+
+abbrev go_up_and_down : List ℕ → Bool
+go_up_and_down [] = true
+go_up_and_down (a ∷ []) = true
+go_up_and_down (a ∷ b ∷ rest) = if nat_lt a b then go_up_and_down (b ∷ rest) else fall_down (a ∷ b ∷ rest)
+
+falls_by_levels : (k : ℕ) (switches : List ℕ) → falls k switches ≡ fall_down (levels k switches)
+falls_by_levels k [] = refl
+falls_by_levels k (s ∷ []) = refl
+falls_by_levels k (s ∷ t ∷ rest) = ap (λ b. nat_lt (level_of k t) (level_of k s) && b) (falls_by_levels k (t ∷ rest))
+
+rises_by_levels : (k : ℕ) (switches : List ℕ) → rises_and_falls k switches ≡ go_up_and_down (levels k switches)
+rises_by_levels k [] = refl
+rises_by_levels k (s ∷ []) = refl
+rises_by_levels k (s ∷ t ∷ rest) =
+    ap₂ (λ a b. if nat_lt (level_of k s) (level_of k t) then a else b) (rises_by_levels k (t ∷ rest)) (falls_by_levels k (s ∷ t ∷ rest))
+
+-- at most five levels that rise and then fall
+abbrev are_good : List ℕ → Bool
+are_good ls = nat_le (length ls) 5 && true && go_up_and_down ls
+
+good_tree_leg : (k : ℕ) (switches : List ℕ) → are_good (levels k switches) ≡ true → is_good_leg true k switches ≡ true
+good_tree_leg k switches good =
+    ap₂ (λ n b. nat_le n 5 && true && b) (sym (length-map switches (level_of k))) (rises_by_levels k switches) ∙ good
+
+-- one switch more behind a leg that rose, or rose and fell, to a neighbour of that switch
+pub good_by_levels : (k s t : ℕ) (leg : List ℕ) → Levels (level_of k s) (level_of k t) → levels k leg ≡ risen_or_fallen (level_of k s) (level_of k t) →
+    is_good_leg true k (t ∷ leg) ≡ true
+good_by_levels k s t leg link rises = good_tree_leg k (t ∷ leg) (by link)
+  where
+    here : (a b : ℕ) → level_of k s ≡ a → level_of k t ≡ b → levels k (t ∷ leg) ≡ b ∷ risen_or_fallen a b
+    here a b is_a is_b = ap₂ (λ n l. n ∷ l) is_b (rises ∙ ap (λ n. risen_or_fallen n (level_of k t)) is_a ∙ ap (risen_or_fallen a) is_b)
+
+    by : Levels (level_of k s) (level_of k t) → are_good (levels k (t ∷ leg)) ≡ true
+    by (FromEdge is_a is_b) = ap are_good (here 0 1 is_a is_b)
+    by (ToCore is_a is_b) = ap are_good (here 1 2 is_a is_b)
+    by (FromCore is_a is_b) = ap are_good (here 2 1 is_a is_b)
+    by (ToEdge is_a is_b) = ap are_good (here 1 0 is_a is_b)
+
+pub starts_with : (switches : List ℕ) (s : ℕ) → first_of switches ≡ Some s → (rest : List ℕ) × (switches ≡ s ∷ rest)
+starts_with [] s is = absurd (cc)
+starts_with (t ∷ rest) s is = (rest, ap (λ n. n ∷ rest) (same_Some t s is))
 
 -- where a frame with these levels behind it may go on from switch t
 abbrev pub IsWayOn : Plan → ℕ → List ℕ → Peer → Type 0

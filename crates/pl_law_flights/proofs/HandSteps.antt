@@ -15,9 +15,9 @@ use Rattle.pl_journal.specs.declared.cause.Cause.{Cause}
 use Rattle.pl_journal.specs.declared.cause.Cause.TheVariants as cause
 use Rattle.pl_journal.specs.declared.entry.Entry.{Entry}
 use Rattle.pl_journal.specs.declared.entry.Entry.TheVariants.{Copied, Crossed, Dropped, Made, Redirected, Taken}
-use Rattle.pl_journal.specs.Causes.{CauseShows, came_in_at_spent_port, goes_to_group, is_bad_arp, is_routed}
+use Rattle.pl_journal.specs.Causes.{CauseShows, came_in_at_spent_port, is_bad_arp, is_routed}
 use Rattle.pl_journal.specs.Flights.{Flight, begun, ends, first_flight, first_of, flight_of, is_begun, is_empty, is_flying, is_redirected, leg, sender, trail, address}
-use Rattle.pl_journal.specs.Lossy.{GoesToNewer, IsTakenBy, goes_well, is_turning}
+use Rattle.pl_journal.specs.Lossy.{GoesToNewer, IsTakenBy, is_turning}
 use Rattle.pl_journal.specs.Places.{EdgePort, at_port}
 use Rattle.pl_journal.proofs.Exports.{ends_after_it_begins, flight_made, flying_is_begun, live_one, next_is_new}
 use Rattle.pl_world.specs.declared.item.Item.TheVariants.{Data}
@@ -28,6 +28,7 @@ use Rattle.pl_world.specs.Worlds.{WorldView}
 use Rattle.pl_world.specs.Flying.{born}
 use Rattle.pl_world.proofs.Exports.{begun_cons, one}
 use Rattle.pl_law_flights.specs.OnTheWay.{JournalSays, history_of}
+use Rattle.pl_law_flights.proofs.Crossing.{well_alone}
 use Rattle.pl_law_flights.proofs.Counting.{Counts, IsNowhere, IsOwed, next_nowhere, next_unborn, owed}
 use Rattle.pl_law_flights.proofs.Hands.{Hand, InHand, IsAmid, IsHeld, IsPutOff, IsSpentThere, MayEnd, MayLeave, MayTake, MayTurn, again_past, made_here, turned}
 use Rattle.pl_law_flights.proofs.Hands.Hand.{Empty, Spreads, Waits}
@@ -69,9 +70,6 @@ module _ (plan : Plan) (s : ℕ) where
   shown past id f cause.Spent h may = ap (λ w. came_in_at_spent_port past w.came_in) h.flight ∙ spent_shown past f.came_in may
   shown past id f cause.BadArp h may = (ap (λ w. length w.trail) h.flight ∙ may.0, ap (λ w. is_bad_arp w.beginning) h.flight ∙ may.1)
   shown past id f cause.NoMember h may = ap (λ w. is_routed (group_of (destination_of w.beginning))) h.flight ∙ may
-
-  well_alone : (past : List Entry) (id : ℕ) (switches : List ℕ) → switches ≡ [] → goes_well plan past id switches s ≡ true
-  well_alone past id switches is = rw is refl
 
   -- it is redirected, and will cross the switch again
   turned_held : (past : List Entry) (id : ℕ) (f : Flight) (again : Bool) (old new : Pmac) → IsHeld plan s f past id again →
@@ -158,7 +156,7 @@ module _ (place : ℕ → Place) (s : ℕ) (w : WorldView) where
             is = reverse_noted w.journal past (Crossed id (switch_no s)) is;
             tells = note w.plan place past w.links w.attachments w.from_hosts w.out (Crossed id (switch_no s)) id away
                 (λ g other. kept w.plan past (Crossed id (switch_no s)) g other) (same_history (history_of past)) (o.flies)
-                (or_right (goes_to_group past id) _ (well_alone w.plan s past id (leg past id) (held.turned.0)))
+                (well_alone w.plan past id s held.turned.0)
                 t.links_agree t.attachments_agree t;
             puts_off = late_kept w.plan place past (Crossed id (switch_no s) ∷ past) s id (λ g other. kept w.plan past (Crossed id (switch_no s)) g other)
                 refl late o.no_more all;
@@ -315,7 +313,7 @@ module _ (place : ℕ → Place) (s : ℕ) (w : WorldView) where
       let t3 : JournalSays w.plan place (crossed ∷ made ∷ old) w.links w.attachments w.from_hosts w.out =
       note w.plan place (made ∷ old) w.links w.attachments w.from_hosts w.out crossed n away
       (λ g other. kept w.plan (made ∷ old) crossed g other) (same_history (history_of old)) flies
-      (or_right (goes_to_group (made ∷ old) n) _ (well_alone w.plan s (made ∷ old) n (leg (made ∷ old) n) (ap (λ v. v.leg) flight))) t2.links_agree t2.attachments_agree t2 in
+      (well_alone w.plan (made ∷ old) n s (ap (λ v. v.leg) flight)) t2.links_agree t2.attachments_agree t2 in
       let in_hand : InHand w.plan s (made_here n s frame) (crossed ∷ made ∷ old) n = record {
         flight = made_crosses w.plan s (made ∷ old) n (mac_number (destination_of frame)) frame flight;
         live = λ u. rw here refl;

@@ -138,13 +138,14 @@ module _ (plan : Plan) (place : ℕ → Place) (history : AddressHistory) (t : �
   climbs f frame p HostPort here alone level placed away leads peer linked = absurd (false≢true (sym linked))
   climbs f frame p (Switch u r) here alone level placed away leads peer linked = record {
     last = here.last;
+    whole = refl;
     group = here.began ∙ sym here.unicast;
     kept = λ group. absurd (both_ways (is_group (destination_of frame)) here.unicast group);
     address = here.address;
     home = here.home;
     many = λ group. absurd (both_ways (is_group (destination_of frame)) here.unicast group);
     rises = λ group. absurd (both_ways (is_group (destination_of frame)) here.unicast group);
-    one = λ unicast. record { route = by_rung (rung plan is_plan t p u r peer); whole = refl; unaltered = here.unaltered; sender = here.sender };
+    one = λ unicast. record { route = by_rung (rung plan is_plan t p u r peer); unaltered = here.unaltered; sender = here.sender };
   }
     where
       low : level_of plan.k t ≡ 0

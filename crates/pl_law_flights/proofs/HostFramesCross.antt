@@ -1,16 +1,14 @@
 -- A frame of a host crosses the edge switch where the host stands.
-use Rattle.std.proofs.Common.{◌≡◌, ℕ, ◌+◌, ◌==◌, true, false, List, [], ◌∷◌, Some, reverse, set, slice_get, option_map, refl, sym, ◌∙◌, ap, subst, arith}
+use Rattle.std.proofs.Common.{◌≡◌, ℕ, ◌+◌, ◌==◌, false, List, [], ◌∷◌, Some, reverse, set, slice_get, option_map, refl, sym, ◌∙◌, ap, subst, arith}
 use Rattle.std.specs.List.{AllByRecursion}
-use Rattle.std.proofs.lemmas.Bool.{cond-true, eq-eqb, or_right}
+use Rattle.std.proofs.lemmas.Bool.{cond-true, eq-eqb}
 use Rattle.pl_frame.specs.Ethernet.{destination_of}
 use Rattle.pl_layouts.specs.declared.place.Place.{Place}
 use Rattle.pl_layouts.specs.Frames.{mac_number}
 use Rattle.pl_wiring.specs.Plan.{Plan}
 use Rattle.pl_journal.specs.declared.entry.Entry.{Entry}
 use Rattle.pl_journal.specs.declared.entry.Entry.TheVariants.{Crossed}
-use Rattle.pl_journal.specs.Causes.{goes_to_group}
 use Rattle.pl_journal.specs.Flights.{Flight, first_flight, flight_of, leg, sender, trail}
-use Rattle.pl_journal.specs.Lossy.{goes_well}
 use Rattle.pl_journal.specs.Places.{at_port, granted_at, edge_port_of}
 use Rattle.pl_queues.specs.Queues.{items_at}
 use Rattle.pl_world.specs.declared.item.Item.{Item}
@@ -22,6 +20,7 @@ use Rattle.pl_world.specs.Flying.{IsCounted, times_in}
 use Rattle.pl_world.specs.Worlds.{WorldView}
 use Rattle.pl_world.proofs.Exports.{Owes, sound, times_in-data, took_host_balance}
 use Rattle.pl_law_flights.specs.OnTheWay.{IsJournaled, IsWaiting, JournalSays, history_of, place_in, edge_port_of_attachment}
+use Rattle.pl_law_flights.proofs.Crossing.{well_alone}
 use Rattle.pl_law_flights.proofs.Counting.{counts, owed}
 use Rattle.pl_law_flights.proofs.Hands.{IsAmid}
 use Rattle.pl_law_flights.proofs.Hands.Hand.{Waits}
@@ -52,9 +51,6 @@ first_crossing plan past id h s port frame flight at =
       came_in = Some (at_port s port);
       source = granted_at past h (at_port s port);
     }) flight)
-
-well_alone : (plan : Plan) (past : List Entry) (id s : ℕ) (switches : List ℕ) → switches ≡ [] → goes_well plan past id switches s ≡ true
-well_alone plan past id s switches is = rw is refl
 
 abbrev pub taken_from : WorldView → ℕ → List Item → WorldView
 taken_from w h items = record w { from_hosts = set w.from_hosts h items }
@@ -89,7 +85,7 @@ enters w counted told h id frame items head attachment found =
       is = reverse_noted w.journal past crossed refl;
       tells = note plan place past w.links w.attachments (set w.from_hosts h items) w.out crossed id (record { not_at_hosts = o.not_at_hosts; not_out = o.not_out })
           (λ g other. kept plan past crossed g other) (same_history (history_of past)) o.flies
-          (or_right (goes_to_group past id) _ (well_alone plan past id s (leg past id) (ap (λ v. v.leg) all.0))) t.links_agree t.attachments_agree t;
+          (well_alone plan past id s (ap (λ v. v.leg) all.0)) t.links_agree t.attachments_agree t;
       holds = (
         refl,
         record {

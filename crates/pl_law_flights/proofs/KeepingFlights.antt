@@ -70,13 +70,14 @@ module _ (plan : Plan) (place : ℕ → Place) where
       KeepsHistory history after → IsBetweenSwitches plan place history f live frame s t → IsBetweenSwitches plan place after g later frame s t
   between_kept history after f g live later frame s t same more keeps b = subst (λ h. IsBetweenSwitches plan place after h later frame s t) (sym same) (record {
     last = b.last;
+    whole = more b.whole;
     group = b.group;
     kept = b.kept;
     address = b.address;
     home = b.home;
     many = λ group. many_kept history after f frame keeps (b.many group);
     rises = b.rises;
-    one = λ unicast. let w = b.one unicast in record { route = w.route; whole = more w.whole; unaltered = w.unaltered; sender = w.sender };
+    one = b.one;
   })
 
   pub leaving_kept : (history later : AddressHistory) (to then_to : Option ℕ) (f g : Flight) (frame : List ℕ) (s port : ℕ) → g ≡ f → ((h : ℕ) → to ≡ Some h → then_to ≡ Some h) →

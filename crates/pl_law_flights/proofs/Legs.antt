@@ -27,7 +27,7 @@ module _ (k : ℕ) where
   other_level : (s t : ℕ) (a b : Label) → label_of k s ≡ a → label_of k t ≡ b → (label_level a ≡ label_level b → ⊥) → (s == t) ≡ false
   other_level s t a b at_s at_t differ = other_label k s t a b at_s at_t (λ same. differ (ap label_level same))
 
-  pub good : (place : ℕ → Place) (to : Pmac) (leg : List ℕ) (s t : ℕ) → Route k place to leg s t → is_good_leg k (t ∷ leg) ≡ true
+  pub good : (place : ℕ → Place) (to : Pmac) (leg : List ℕ) (s t : ℕ) → Route k place to leg s t → is_good_leg false k (t ∷ leg) ≡ true
   good place to leg s t (Climbs p i j at_s at_t is elsewhere) =
       rw (is, level_at k s _ at_s, level_at k t _ at_t, other_level s t _ _ at_s at_t (λ e. absurd (cc))) refl
   good place to leg s t (Leaves e p i j m at_e at_s at_t is other) =

@@ -10,7 +10,7 @@ use Rattle.pl_arp.specs.Packet.{layout}
 use Rattle.pl_frame.specs.declared.address.Ip4.{Ip4}
 use Rattle.pl_frame.specs.Ethernet.{destination_of, source_of}
 use Rattle.pl_pmac.specs.declared.pmac.Pmac.{Pmac}
-use Rattle.pl_pmac.specs.Pmac.{mac_of, pmac_number, pmac_of}
+use Rattle.pl_pmac.specs.Pmac.{mac_of, pmac_number}
 use Rattle.pl_wiring.specs.declared.link.Peer.{Peer}
 use Rattle.pl_wiring.specs.declared.link.Peer.TheVariants.{HostPort, Switch}
 use Rattle.pl_wiring.specs.Peers.{peer_of}
@@ -63,6 +63,7 @@ module _ (plan : Plan) (place : ℕ → Place) (history : AddressHistory) (t : �
   spread : (p : ℕ) (peer : Peer) → peer_of plan t p ≡ peer → is_usable v p ≡ true → MayLeave plan place history t p peer f frame
   spread p (Switch u r) is usable = record {
     last = here.last;
+    whole = refl;
     group = ap is_group here.kept;
     kept = λ group. here.kept;
     address = here.address;

@@ -117,7 +117,7 @@ module _ (w : WorldView) (counted : IsCounted w) (told : IsJournaled w) (on : St
       let away : IsNowhere w.from_hosts w1.out id = record { not_at_hosts = took.flies.not_at_hosts; not_out = took.flies.not_out } in
       let t1 = note w.plan place past w.links w.attachments w.from_hosts w1.out (Crossed id t) id away (λ g other. kept w.plan past (Crossed id t) g other)
       (same_history (history_of past)) (took.flies.flies)
-      (crosses_well w.plan place past id s t frame (adjacent w.plan s port t q is_plan peer) b) took.tells.links_agree took.tells.attachments_agree took.tells in
+      (crosses_well w.plan place past id s port t q frame is_plan peer (adjacent w.plan s port t q is_plan peer) b) took.tells.links_agree took.tells.attachments_agree took.tells in
       let e = eq-eqb id id refl in
       let some : is_empty (trail past id) ≡ false = crossed_first (trail past id) s b.last in
       let in_hand : InHand w.plan t.0 (crossed_at t.0 f) now id = record {

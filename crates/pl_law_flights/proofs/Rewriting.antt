@@ -1,6 +1,5 @@
 -- A frame that went in under its sender's address leaves with its receiver's: it is as if both had been written at once.
 use Rattle.std.proofs.Common.{inl, inr, ◌≡◌, ℕ, ◌≤◌, true, false, List, ◌++◌, length, drop, None, Some, is_some, sym, ◌∙◌, ap, arith}
-use Rattle.std.specs.Option.{option_map}
 use Rattle.std.proofs.lemmas.Bool.{cases_Bool}
 use Rattle.pl_lemmas.proofs.Exports.{is_some-option_map}
 use Rattle.pl_frame.specs.declared.address.Mac.{Mac}

@@ -77,13 +77,14 @@ module _ (place later : ℕ → Place) (more : IsMore place later) where
       IsBetweenSwitches plan later history f live frame s t
   between_grown plan history f live frame s t b = record {
     last = b.last;
+    whole = b.whole;
     group = b.group;
     kept = b.kept;
     address = b.address;
     home = λ there is. placed_grown there.edge (b.home there is);
     many = b.many;
     rises = b.rises;
-    one = λ unicast. let w = b.one unicast in record { route = route_grown plan.k _ f.leg s t w.route; whole = w.whole; unaltered = w.unaltered; sender = w.sender };
+    one = λ unicast. let w = b.one unicast in record { route = route_grown plan.k _ f.leg s t w.route; unaltered = w.unaltered; sender = w.sender };
   }
 
   pub leaving_grown : (plan : Plan) (to : Option ℕ) (history : AddressHistory) (f : Flight) (frame : List ℕ) (s port : ℕ) → IsLeaving plan place to history f frame s port →

@@ -45,11 +45,9 @@ WillBeUnaltered f frame = (mac : Mac) → length mac.0 ≡ 6 → UnalteredFrom f
 abbrev pub CameInPlaced : (ℕ → Place) → Option EdgePort → Type 0
 CameInPlaced place came_in = (there : EdgePort) → came_in ≡ Some there → is_placed (place there.edge) ≡ true
 
--- A frame to one host is between two switches, and the link was live since it crossed the first one. Its source is that of one host, but in an ARP
--- packet.
-pub record IsOnWay (plan : Plan) (place : ℕ → Place) (f : Flight) (live : Bool) (frame : List ℕ) (s t : ℕ) : Type 0 where
+-- A frame to one host is between two switches. Its source is that of one host, but in an ARP packet.
+pub record IsOnWay (plan : Plan) (place : ℕ → Place) (f : Flight) (frame : List ℕ) (s t : ℕ) : Type 0 where
   pub route : Route plan.k place (pmac_of (destination_of frame)) f.leg s t
-  pub whole : live ≡ true
   pub unaltered : WillBeUnaltered f frame
   pub sender : is_arp frame ≡ false → is_group (source_of frame) ≡ false
 
@@ -79,17 +77,18 @@ pub record IsForMany (history : AddressHistory) (f : Flight) (frame : List ℕ) 
   pub there : EdgePort
   pub granted : history.edge_ports (pmac_number from) ≡ Some there
 
--- a frame is between two switches: it crossed the first one last, and carries its present address; one to a group only rose, or rose to a core switch
--- and then only fell
+-- a frame is between two switches: it crossed the first one last, their link was live since then, and it carries its present address; one to a group
+-- only rose, or rose to a core switch and then only fell
 pub record IsBetweenSwitches (plan : Plan) (place : ℕ → Place) (history : AddressHistory) (f : Flight) (live : Bool) (frame : List ℕ) (s t : ℕ) : Type 0 where
   pub last : first_of f.trail ≡ Some s
+  pub whole : live ≡ true
   pub group : is_group (destination_of f.beginning) ≡ is_group (destination_of frame)
   pub kept : is_group (destination_of frame) ≡ true → destination_of f.beginning ≡ destination_of frame
   pub address : f.address ≡ mac_number (destination_of frame)
   pub home : CameInPlaced place f.came_in
   pub many : is_group (destination_of frame) ≡ true → IsForMany history f frame
   pub rises : is_group (destination_of frame) ≡ true → levels plan.k f.leg ≡ risen_or_fallen (level_of plan.k s) (level_of plan.k t)
-  pub one : is_group (destination_of frame) ≡ false → IsOnWay plan place f live frame s t
+  pub one : is_group (destination_of frame) ≡ false → IsOnWay plan place f frame s t
 
 -- a frame leaves by a port for the host that it is for (`to`), and its present address was granted there
 pub record IsForHost (plan : Plan) (to : Option ℕ) (history : AddressHistory) (f : Flight) (frame : List ℕ) (s port : ℕ) : Type 0 where

@@ -1,5 +1,5 @@
 -- What follows for worlds at rest.
-use Rattle.std.proofs.Common.{◌≡◌, ℕ, ◌/◌, Some, ap, arith}
+use Rattle.std.proofs.Common.{◌≡◌, ℕ, ◌/◌, ◌≤◌, Some, ap, arith}
 use Rattle.pl_lemmas.proofs.Exports.{all_at}
 use Rattle.pl_wiring.specs.declared.label.Label.TheVariants.{Edge}
 use Rattle.pl_wiring.specs.Labels.{IsLabel}
@@ -28,3 +28,13 @@ module _ (w : WorldView) (kept : ControlInvariant w) (placing : ArePlacing w) (p
 
   pub world_pods : FirstKnowsPod (control_plane w) pod → KnowPod (control_plane w) pod
   world_pods = know_pod (control_plane w) kept.counted.formed.plan kept.placed placing.trying placing.noted pod rests (sizes w kept pod) kept.voting
+
+-- As many attempts as there are positions are enough, at rest or not.
+pub few_attempts : (w : WorldView) → ControlInvariant w → ArePlacing w → (pod i : ℕ) → IsLabel w.plan.k (Edge pod i) →
+    ((control_plane w).view (edge_no w.plan.k pod i)).attempt ≤ w.plan.k / 2
+few_attempts w kept placing pod i edge =
+    let e = edge_no w.plan.k pod i in
+    let turn = (placing.parked.turns e).attempt in
+    let low = (kept.placed.sound e (number_there w.plan kept.counted.formed.plan (Edge pod i) edge)).able.position in
+    let size = sizes w kept pod i edge in
+    omega (arith, turn, low, size)

@@ -5,6 +5,10 @@ pub mod Below
 pub mod TriesStayInOrder
 pub mod Voting
 pub mod KeepingPlacing
+pub mod Coming
+pub mod Room
+pub mod ParkingStays
+pub mod KeepingParking
 pub mod NotesOfAggregations
 pub mod TellingOfPlacing
 pub mod Notes

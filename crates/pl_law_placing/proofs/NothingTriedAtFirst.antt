@@ -16,6 +16,7 @@ use Rattle.pl_node.specs.PortRecords.{heard_place, new_port, place_at}
 use Rattle.pl_node.proofs.Exports.{unheld}
 use Rattle.pl_law_placing.specs.Bounding.{IsBounded}
 use Rattle.pl_law_placing.specs.Noting.{AreNoted}
+use Rattle.pl_law_placing.specs.Parking.{AreParked, IsInTurn, IsNotPast, IsVoteOfOneThere}
 use Rattle.pl_law_placing.specs.Receiving.{HaveCrossed, ItemHasCrossed}
 use Rattle.pl_law_placing.specs.Trying.{AreTrying, IsTrueVote, IsTrying}
 
@@ -29,6 +30,21 @@ trying_at_first plan limits = record {
   trying = booted_view IsTrying (λ id k. record { first = λ one. refl; few = λ none. omega arith }) plan.k plan.ids;
   reasons = λ pod i label more.
       absurd (booted_view (λ v. 1 < v.attempt → ⊥) (λ id k more. omega (arith, more)) plan.k plan.ids (edge_no plan.k pod i) more);
+}
+
+pub parked_at_first : (plan : Plan) (limits : Limits) → AreParked (control_plane (booted plan limits))
+parked_at_first plan limits = record {
+  turns = booted_view IsInTurn (λ id k. record { attempt = refl; fixed = λ x at. absurd (cc at) }) plan.k plan.ids;
+  kept = λ pod i q label below.
+      absurd (booted_view (λ v. q < v.proposed → ⊥) (λ id k below. omega (arith, below)) plan.k plan.ids (edge_no plan.k pod i) below);
+  held = λ pod j q hold label is.
+      absurd (booted_view (λ v. (q : ℕ) (hold : Hold) → hold_at v q ≡ Some hold → ⊥) (λ id k. unheld id k) plan.k plan.ids (aggregation_no plan.k pod j) q hold is);
+  said = λ pod j port label.
+      subst (AllByRecursion (IsVoteOfOneThere plan.k (λ s. get_or (map (λ id. switch_at_boot id plan.k) plan.ids) s no_switch) pod))
+      (sym (nothing_said plan.k (switch_count plan.k * plan.k) (aggregation_no plan.k pod j) port)) tt;
+  proposals = λ s port.
+      subst (AllByRecursion (IsNotPast (get_or (map (λ id. switch_at_boot id plan.k) plan.ids) s no_switch).proposed))
+      (sym (nothing_said plan.k (switch_count plan.k * plan.k) s port)) tt;
 }
 
 untold : (id : SwitchId) (k q : ℕ) → (place_at (switch_at_boot id k) q).position ≡ None

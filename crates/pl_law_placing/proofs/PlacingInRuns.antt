@@ -22,11 +22,13 @@ use Rattle.pl_law_invariant.specs.ControlInvariant.{ControlInvariant}
 use Rattle.pl_law_invariant.proofs.Exports.{can_tell, holds_in_run, kept_at_first, world_on_plane}
 use Rattle.pl_law_placing.specs.Bounding.{IsBounded}
 use Rattle.pl_law_placing.specs.Noting.{AreNotedBy}
+use Rattle.pl_law_placing.specs.Parking.{AreParkedBy}
 use Rattle.pl_law_placing.specs.Placing.{ArePlacing}
 use Rattle.pl_law_placing.specs.Trying.{AreTryingBy}
 use Rattle.pl_law_placing.proofs.Bounding.{seen_bounded}
 use Rattle.pl_world.proofs.Exports.{one_more_step}
-use Rattle.pl_law_placing.proofs.NothingTriedAtFirst.{bounded_at_first, crossed_at_first, noted_at_first, trying_at_first}
+use Rattle.pl_law_placing.proofs.NothingTriedAtFirst.{bounded_at_first, crossed_at_first, noted_at_first, parked_at_first, trying_at_first}
+use Rattle.pl_law_placing.proofs.KeepingParking.{seen_parked}
 use Rattle.pl_law_placing.proofs.KeepingPlacing.{seen_trying}
 use Rattle.pl_law_placing.proofs.Levels.{seen_later, step_levels}
 use Rattle.pl_law_placing.proofs.Notes.{seen_noted}
@@ -36,6 +38,7 @@ use Rattle.pl_law_placing.proofs.Seeing.{seen_on}
 placing_at_first : (plan : Plan) (limits : Limits) → ArePlacing (booted plan limits)
 placing_at_first plan limits = record {
   trying = trying_at_first plan limits;
+  parked = parked_at_first plan limits;
   noted = noted_at_first plan limits;
   bounded = bounded_at_first plan limits;
   crossed = crossed_at_first plan;
@@ -57,6 +60,8 @@ module _ (host : HostRule) where
       record {
         trying = subst (λ (p : Plan). AreTryingBy p g.view g.says) (sym same)
             (seen_trying f g is before.placed (can_tell old before.counted before.placed) placing.trying seen);
+        parked = subst (λ (p : Plan). AreParkedBy p g.view g.says) (sym same)
+            (seen_parked f g is before.placed (can_tell old before.counted before.placed) placing.trying placing.parked seen);
         noted = subst (λ (p : Plan). AreNotedBy p g.view g.says) (sym same)
             (seen_noted f g is before.placed (can_tell old before.counted before.placed) before.voting placing.noted seen);
         bounded = λ s. subst (λ n. IsBounded n (g.view s)) (sym (one_more_step Loose whole_rule host old event new step))
@@ -71,6 +76,7 @@ module _ (host : HostRule) where
         let goes = marked_goes old entry mark placing.crossed in
         record {
           trying = placing.trying;
+          parked = placing.parked;
           noted = placing.noted;
           bounded = placing.bounded;
           crossed = goes.crossed;

@@ -4,3 +4,4 @@ pub mod Noting
 pub mod Resting
 pub mod Bounding
 pub mod Receiving
+pub mod Parking

@@ -4,12 +4,15 @@ use Rattle.pl_law_control_plane.specs.ControlPlanes.{control_plane}
 use Rattle.pl_world.specs.Worlds.{WorldView}
 use Rattle.pl_law_placing.specs.Bounding.{IsBounded}
 use Rattle.pl_law_placing.specs.Noting.{AreNoted}
+use Rattle.pl_law_placing.specs.Parking.{AreParked}
 use Rattle.pl_law_placing.specs.Receiving.{HaveCrossed, HaveLevels}
 use Rattle.pl_law_placing.specs.Trying.{AreTrying}
 
 pub record ArePlacing (w : WorldView) : Type 0 where
   -- positions are refused and left for a reason
   pub trying : AreTrying (control_plane w)
+  -- none goes on from a position that nobody else has or tries
+  pub parked : AreParked (control_plane w)
   -- told positions are noted
   pub noted : AreNoted (control_plane w)
   -- there are no more attempts than steps

@@ -5,6 +5,7 @@
 pub use placing_laws::{
     each_step_keeps_edge_switches_placing, edge_switches_of_a_pod_at_rest_have_positions,
     edge_switches_of_a_pod_at_rest_know_the_pod, every_run_keeps_edge_switches_placing,
+    no_edge_switch_makes_more_attempts_than_there_are_positions,
     one_of_a_pod_at_rest_has_position_0, what_is_no_news_was_answered,
 };
 

@@ -1,4 +1,4 @@
-ghost use Rattle.std.specs.Prelude.{◌≡◌, ◌<◌, ℕ, None, Some, false};
+ghost use Rattle.std.specs.Prelude.{◌≡◌, ◌<◌, ◌≤◌, ◌/◌, ℕ, None, Some, false};
 ghost use Rattle.pl_wiring.specs.declared.label.Label.TheVariants.{Edge};
 ghost use Rattle.pl_wiring.specs.Labels.{IsLabel};
 ghost use Rattle.pl_node.specs.SwitchFacts.{holder_of, is_news};
@@ -50,4 +50,11 @@ pub fn edge_switches_of_a_pod_at_rest_know_the_pod()
 /// answered.
 pub fn what_is_no_news_was_answered()
     ensures { (v u : SwitchView) (p : ℕ) → v.attempt < 4294967295 → is_news v p v.attempt (holder_of u v.proposed) ≡ false → ProposalIsAnswered v p u }
+{}
+
+/// No edge switch makes more attempts than its pod has positions: it goes on from one only where another edge
+/// switch has it or, with a smaller id, tries it.
+pub fn no_edge_switch_makes_more_attempts_than_there_are_positions()
+    ensures { (w : WorldView) → ControlInvariant w → ArePlacing w → (pod i : ℕ) → IsLabel w.plan.k (Edge pod i) →
+        ((control_plane w).view (edge_no w.plan.k pod i)).attempt ≤ w.plan.k / 2 }
 {}

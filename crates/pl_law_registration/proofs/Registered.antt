@@ -23,7 +23,7 @@ use Rattle.pl_world.specs.Booting.{me_of}
 use Rattle.pl_world.specs.Changes.{host_no, out_of, switch_no}
 use Rattle.pl_world.specs.Refusals.{has_port, has_switch}
 use Rattle.pl_world.specs.Worlds.{WorldView}
-use Rattle.pl_law_addresses.specs.Registered.{IsRegisteredWithIp}
+use Rattle.pl_law_addresses.specs.Registered.{IsRegisteredWithIp, IsServed}
 use Rattle.pl_law_addresses.specs.EdgeAddresses.{is_settled}
 use Rattle.pl_law_addresses.proofs.Exports.{granted_here, local_here}
 use Rattle.pl_law_control_plane.specs.ControlPlanes.{control_plane}
@@ -49,12 +49,12 @@ use Rattle.pl_law_registration.proofs.Facts.{facts_of}
 use Rattle.pl_law_registration.proofs.KeepingRegistration.{AttendsAll, run_attends}
 use Rattle.pl_law_registration.proofs.Sources.{KnowsAt, low_placed}
 
-known_at : (me : Me) (ticks : ℕ) (v : SwitchView) (port : ℕ) → KnowsAt me ticks v port → IsKnownAt v port me
+known_at : (me : Me) (ticks : ℕ) (v : SwitchView) (port : ℕ) → KnowsAt me ticks v port → IsKnownAt ticks v port me
 known_at me ticks v port knows = record {
   unplaced = knows.unplaced;
   placed = λ settled room.
       let s = knows.placed settled ((Decides-ltb (length (grants_at v port)) 65535).1 room) in
-      record {
+      let is_served : IsServed v port me = record {
         address = address_at_port v port s.vmid;
         grant = s.grant;
         found = granted_here v (address_at_port v port s.vmid) (local_here v port s.vmid settled) ∙ s.found;
@@ -62,7 +62,8 @@ known_at me ticks v port knows = record {
         used = ap is_in_use s.used;
         mac = s.mac;
         ip = s.ip;
-      };
+      } in
+      record { served = is_served; idle = s.idle; counts = s.used; young = s.young };
 }
 
 -- it was heard so many ticks ago
@@ -71,19 +72,19 @@ heard_ticks None is = absurd (false≢true is)
 heard_ticks (Some ticks) is = (ticks, refl)
 
 pub all_being_registered : (w : WorldView) → AttendsAll w → AreBeingRegistered w
-all_being_registered w all h host attachment v at heard =
-    let ticks = heard_ticks (heard_at w h) heard in
-    elim ((all.each h).noticed host attachment at.is_host at.attachments v at.switch ticks.0 ticks.1) [
-      | inl knows ↦ inl (known_at (me_of host) ticks.0 v attachment.port knows)
-      | inr waits ↦ inr waits
-    ]
+all_being_registered w all h host attachment v ticks at heard = elim ((all.each h).noticed host attachment at.is_host at.attachments v at.switch ticks heard) [
+  | inl knows ↦ inl (known_at (me_of host) ticks v attachment.port knows)
+  | inr waits ↦ inr waits
+]
 
 -- an edge switch that is not placed remembers it
 pub all_remembered : (w : WorldView) → AreBeingRegistered w → AreRemembered w
-all_remembered w being_registered h host attachment v at reached unsettled = elim (being_registered h host attachment v at reached) [
-  | inl known ↦ known.unplaced unsettled
-  | inr waits ↦ absurd (false≢true (sym unsettled ∙ waits.0))
-]
+all_remembered w being_registered h host attachment v at reached unsettled =
+    let ticks = heard_ticks (heard_at w h) reached in
+    elim (being_registered h host attachment v ticks.0 at ticks.1) [
+      | inl known ↦ known.unplaced unsettled
+      | inr waits ↦ absurd (false≢true (sym unsettled ∙ waits.0))
+    ]
 
 none_of : (p : Item → Bool) (xs : List Item) → xs ≡ [] → list_any p xs ≡ true → ⊥
 none_of p xs is any = false≢true (ap (λ (ys : List Item). list_any p ys) (sym is) ∙ any)
@@ -123,8 +124,9 @@ registered_at_rest w kept being_registered nothing h host attachment v at placed
     let out = no_items (out_of w attachment.edge.0 attachment.port) (nothing (queue.Port attachment.edge attachment.port) in_port) in
     let up = no_items (items_at w.to_manager attachment.edge.0) (nothing (queue.ToManager attachment.edge) there) in
     let down = no_items (items_at w.from_manager attachment.edge.0) (nothing (queue.FromManager attachment.edge) there) in
-    elim (being_registered h host attachment v at reached) [
-      | inl known ↦ served_registered w kept.counted kept.addresses h host attachment v at.is_host at.attachments at.switch (whole_now w kept nothing) up down (known.placed settled room)
+    let ticks = heard_ticks (heard_at w h) reached in
+    elim (being_registered h host attachment v ticks.0 at ticks.1) [
+      | inl known ↦ served_registered w kept.counted kept.addresses h host attachment v at.is_host at.attachments at.switch (whole_now w kept nothing) up down ((known.placed settled room).served)
       | inr waits ↦ elim waits.1 [
         | inl probe ↦ absurd (none_of (is_probe (me_of host)) (out_of w attachment.edge.0 attachment.port) out probe)
         | inr packet ↦ absurd (none_of is_packet (items_at w.from_hosts h) mine packet)

@@ -1,6 +1,6 @@
 -- In a settled fabric the edge switch with position 0 knows its pod, so the others of a pod whose links are live do; and where frames of hosts were
 -- received they know all of their places.
-use Rattle.std.proofs.Common.{◌≡◌, ℕ, zero, suc, ◌<◌, ◌||◌, Bool, false, List, [], ◌∷◌, Some, Contains, slice_get, refl, ap, ◌∙◌, arith}
+use Rattle.std.proofs.Common.{◌≡◌, ℕ, zero, suc, ◌||◌, Bool, false, List, [], ◌∷◌, Some, Contains, slice_get, refl, ap, ◌∙◌, arith}
 use Rattle.std.specs.List.{list_any}
 use Rattle.pl_frame.specs.declared.address.SwitchId.{SwitchId}
 use Rattle.pl_layouts.specs.declared.place.Place.{Place}
@@ -28,7 +28,7 @@ use Rattle.pl_law_settled.specs.Whole.{IsWholePod}
 use Rattle.pl_law_settled.proofs.Pods.{resting_pod, settled_positions}
 use Rattle.pl_law_settled.proofs.Records.{rests}
 
-none_of : {X : Type 0} (p : X → Bool) (P : X → Type 0) → ((x : X) → P x → p x ≡ false) → (xs : List X) → ((x : X) → Contains xs x → P x) → list_any p xs ≡ false
+pub none_of : {X : Type 0} (p : X → Bool) (P : X → Type 0) → ((x : X) → P x → p x ≡ false) → (xs : List X) → ((x : X) → Contains xs x → P x) → list_any p xs ≡ false
 none_of p P not_one [] each = refl
 none_of p P not_one (x ∷ xs) each =
     ap (λ b. b || list_any p xs) (not_one x (each x (zero, omega arith, refl)))
@@ -56,7 +56,7 @@ no_number (say.Release address) is = refl
 no_number (say.Hello epoch) is = absurd is
 no_number (say.Tree group part) is = refl
 
-no_hello : (says : ToSwitch) → IsReply says → is_hello says ≡ false
+pub no_hello : (says : ToSwitch) → IsReply says → is_hello says ≡ false
 no_hello (say.Pod n) is = refl
 no_hello (say.Answer asker asker_ip ip pmac) is = refl
 no_hello (say.Flood asker asker_ip ip) is = refl
@@ -91,16 +91,16 @@ module _ (w : WorldView) (kept : ControlInvariant w) (placing : ArePlacing w) wh
   pub settled_first_pod : HasSettledQueues w → (pod : ℕ) → FirstKnowsPod (control_plane w) pod
   settled_first_pod queues pod i edge position = pod_of_first queues (edge_no w.plan.k pod i) position
 
-  module _ (settled : IsSettled w) (few : w.steps < 4294967295) (pod : ℕ) (whole : IsWholePod w pod) where
+  module _ (settled : IsSettled w) (pod : ℕ) (whole : IsWholePod w pod) where
     pub settled_pods : KnowPod (control_plane w) pod
-    settled_pods = world_pods w kept placing pod (resting_pod w kept settled placing few pod whole) (settled_first_pod settled.queues pod)
+    settled_pods = world_pods w kept placing pod (resting_pod w kept settled placing pod whole) (settled_first_pod settled.queues pod)
 
     pub receivers_placed : ReceiversArePlaced w pod
     receivers_placed i edge received =
         let s = edge_no w.plan.k pod i in
         let v = (control_plane w).view s in
         let level = placing.levels s received in
-        let position = settled_positions w kept settled placing few pod whole i edge level in
+        let position = settled_positions w kept settled placing pod whole i edge level in
         let number = settled_pods i edge level in
         record {
           position = position.0;

@@ -21,7 +21,7 @@ use Rattle.pl_law_votes.specs.Voting.{aggregation_no, edge_no}
 use Rattle.pl_law_invariant.specs.ControlInvariant.{ControlInvariant}
 use Rattle.pl_law_placing.specs.Placing.{ArePlacing}
 use Rattle.pl_law_placing.specs.Resting.{HasFirst, HavePositions, IsRestingLink, IsRestingPod}
-use Rattle.pl_law_placing.proofs.Exports.{answered, world_first, world_positions}
+use Rattle.pl_law_placing.proofs.Exports.{answered, few_attempts, world_first, world_positions}
 use Rattle.pl_law_settled.specs.Whole.{IsWholePod}
 use Rattle.pl_law_settled.proofs.Proposals.{presents}
 use Rattle.pl_journal.specs.Flights.{label_level}
@@ -90,7 +90,7 @@ module _ (w : WorldView) (kept : ControlInvariant w) (is : IsSettled w) where
           known None none = absurd ((kept.placed.sound t below).full.one q told none)
           known (Some x) some = some ∙ ap Some ((kept.placed.own t).level x some ∙ ap label_level of)
 
-  module _ (placing : ArePlacing w) (few : w.steps < 4294967295) (pod : ℕ) (whole : IsWholePod w pod) where
+  module _ (placing : ArePlacing w) (pod : ℕ) (whole : IsWholePod w pod) where
     resting_link : (i j p q : ℕ) → IsLabel w.plan.k (Edge pod i) → IsLabel w.plan.k (Aggregation pod j) →
         AreAdjacent w.plan (edge_no w.plan.k pod i) p (aggregation_no w.plan.k pod j) q →
         IsRestingLink ((control_plane w).view (edge_no w.plan.k pod i)) p ((control_plane w).view (aggregation_no w.plan.k pod j)) q
@@ -112,8 +112,9 @@ module _ (w : WorldView) (kept : ControlInvariant w) (is : IsSettled w) where
           answered = λ level none.
               let one = level_above pod j q aggregation beyond.0 (ap (λ (x : Place). x.level) up ∙ level) in
               let within = subst (λ k. v.proposed < k / 2) (size s here.0 ∙ sym (size t beyond.0)) (kept.placed.sound s here.0).able.position in
-              let attempts = (placing.bounded s).few level in
-              answered v u p (omega (arith, attempts, few)) (no_news v p u q below.no_news (below.usable ∙ live) down up one within level none);
+              let attempts = few_attempts w kept placing pod i edge in
+              let size = plan.arity.most in
+              answered v u p (omega (arith, attempts, size)) (no_news v p u q below.no_news (below.usable ∙ live) down up one within level none);
         }
 
     pub resting_pod : IsRestingPod (control_plane w) pod

@@ -1,5 +1,5 @@
 -- What holds of each moment of a run of lawful logic from the beginning, and what it comes to where the fabric is settled.
-use Rattle.std.proofs.Common.{◌≡◌, ◌↔◌, ◌<◌, ℕ, false, List, [], ◌∷◌, ◌++◌, Some, None, slice_get, subst}
+use Rattle.std.proofs.Common.{◌≡◌, ◌↔◌, ℕ, false, List, [], ◌∷◌, ◌++◌, Some, None, slice_get, subst}
 use Rattle.pl_wiring.specs.declared.label.Label.TheVariants.{Edge}
 use Rattle.pl_wiring.specs.Labels.{IsLabel}
 use Rattle.pl_wiring.specs.Plan.{Plan}
@@ -53,18 +53,18 @@ module _ (switch : SwitchRule) (manager : ManagerRule) (host : HostRule) (within
       let all = run_keeps_all host sends owns plan limits moments new can loose in
       links_current new all.counted.formed.plan all.gathered (run_links host sends owns plan limits moments new can loose) queues
 
-  pub run_positions : IsSettled new → new.steps < 4294967295 → (pod : ℕ) → IsWholePod new pod → HavePositions (control_plane new) pod
-  run_positions settled few pod whole =
-      settled_positions new (run_keeps_all host sends owns plan limits moments new can loose) settled (run_places host sends owns plan limits moments new can loose) few pod whole
+  pub run_positions : IsSettled new → (pod : ℕ) → IsWholePod new pod → HavePositions (control_plane new) pod
+  run_positions settled pod whole =
+      settled_positions new (run_keeps_all host sends owns plan limits moments new can loose) settled (run_places host sends owns plan limits moments new can loose) pod whole
 
-  pub run_first : IsSettled new → new.steps < 4294967295 → (pod : ℕ) → IsWholePod new pod → (i : ℕ) → IsLabel new.plan.k (Edge pod i) →
+  pub run_first : IsSettled new → (pod : ℕ) → IsWholePod new pod → (i : ℕ) → IsLabel new.plan.k (Edge pod i) →
       ((control_plane new).view (edge_no new.plan.k pod i)).place.level ≡ Some 0 → HasFirst (control_plane new) pod
-  run_first settled few pod whole i edge level =
-      settled_first new (run_keeps_all host sends owns plan limits moments new can loose) settled (run_places host sends owns plan limits moments new can loose) few pod whole i edge level
+  run_first settled pod whole i edge level =
+      settled_first new (run_keeps_all host sends owns plan limits moments new can loose) settled (run_places host sends owns plan limits moments new can loose) pod whole i edge level
 
-  pub run_placed : IsSettled new → new.steps < 4294967295 → (pod : ℕ) → IsWholePod new pod → ReceiversArePlaced new pod
-  run_placed settled few pod whole =
-      receivers_placed new (run_keeps_all host sends owns plan limits moments new can loose) (run_places host sends owns plan limits moments new can loose) settled few pod whole
+  pub run_placed : IsSettled new → (pod : ℕ) → IsWholePod new pod → ReceiversArePlaced new pod
+  run_placed settled pod whole =
+      receivers_placed new (run_keeps_all host sends owns plan limits moments new can loose) (run_places host sends owns plan limits moments new can loose) settled pod whole
 
   -- the table of proposals says what the rows say
   pub run_agrees : (s t : ℕ) (v u : SwitchView) (port q : ℕ) → slice_get new.switches s ≡ Some v → slice_get new.switches t ≡ Some u →

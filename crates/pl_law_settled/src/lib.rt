@@ -11,8 +11,8 @@ pub use settled_laws::{
     a_settled_pod_is_at_rest, edge_switches_of_a_settled_pod_have_positions,
     edge_switches_of_a_settled_pod_know_the_pod,
     edge_switches_of_a_settled_pod_that_received_frames_of_hosts_are_placed,
-    one_of_a_settled_pod_has_position_0, records_are_current_where_queues_are_settled,
-    settled_queues_are_at_rest,
+    no_report_is_missing_where_queues_are_settled, one_of_a_settled_pod_has_position_0,
+    records_are_current_where_queues_are_settled, settled_queues_are_at_rest,
 };
 pub use vote_laws::a_proposal_sent_again_changes_nothing_exactly_where_the_rows_leave_both;
 

@@ -1,4 +1,4 @@
-ghost use Rattle.std.specs.Prelude.{◌≡◌, ◌<◌, ℕ, List, Some};
+ghost use Rattle.std.specs.Prelude.{◌≡◌, ℕ, List, Some};
 ghost use Rattle.pl_wiring.specs.declared.label.Label.TheVariants.{Edge};
 ghost use Rattle.pl_wiring.specs.Labels.{IsLabel};
 ghost use Rattle.pl_wiring.specs.Plan.{Plan};
@@ -32,19 +32,18 @@ pub fn records_are_current_in_every_run_where_queues_are_settled<
     ensures { InEveryRun S.rule M.rule H.rule (λ new. HasSettledQueues new → AreCurrent (control_plane new) × LinksAreCurrent (control_plane new)) }
 {}
 
-/// So it is in each such run where the fabric is settled. And as long as there were fewer steps than the
-/// largest attempt, each edge switch there that knows its level, of a pod that lacks no link, has a position,
-/// and if there is one, one of the pod has position 0; and each that received a frame of a host has level 0,
-/// a position and a pod.
+/// So it is in each such run where the fabric is settled. And each edge switch there that knows its level, of
+/// a pod that lacks no link, has a position, and if there is one, one of the pod has position 0; and each that
+/// received a frame of a host has level 0, a position and a pod.
 pub fn settled_runs_have_current_records_and_positions<
     S: LooseSwitch,
     M: LawfulManager,
     H: HostLogic,
 >()
     ensures records { InEveryRun S.rule M.rule H.rule (λ new. IsSettled new → AreCurrent (control_plane new) × LinksAreCurrent (control_plane new)) }
-    ensures positions { InEveryRun S.rule M.rule H.rule (λ new. IsSettled new → new.steps < 4294967295 → (pod : ℕ) → IsWholePod new pod → HavePositions (control_plane new) pod) }
-    ensures first { InEveryRun S.rule M.rule H.rule (λ new. IsSettled new → new.steps < 4294967295 → (pod : ℕ) → IsWholePod new pod → (i : ℕ) → IsLabel new.plan.k (Edge pod i) → ((control_plane new).view (edge_no new.plan.k pod i)).place.level ≡ Some 0 → HasFirst (control_plane new) pod) }
-    ensures placed { InEveryRun S.rule M.rule H.rule (λ new. IsSettled new → new.steps < 4294967295 → (pod : ℕ) → IsWholePod new pod → ReceiversArePlaced new pod) }
+    ensures positions { InEveryRun S.rule M.rule H.rule (λ new. IsSettled new → (pod : ℕ) → IsWholePod new pod → HavePositions (control_plane new) pod) }
+    ensures first { InEveryRun S.rule M.rule H.rule (λ new. IsSettled new → (pod : ℕ) → IsWholePod new pod → (i : ℕ) → IsLabel new.plan.k (Edge pod i) → ((control_plane new).view (edge_no new.plan.k pod i)).place.level ≡ Some 0 → HasFirst (control_plane new) pod) }
+    ensures placed { InEveryRun S.rule M.rule H.rule (λ new. IsSettled new → (pod : ℕ) → IsWholePod new pod → ReceiversArePlaced new pod) }
 {}
 
 /// So it is where a settling of a fabric, at any moment of such a run, ends with the answer that it is
@@ -59,5 +58,5 @@ pub fn settlings_end_with_current_records_and_placed_edge_switches<
         AreCurrent (control_plane new) × LinksAreCurrent (control_plane new) }
     ensures placed { (plan : Plan) (limits : Limits) (moments : List Moment) (old : WorldView) (asked rounds : ℕ) (new : WorldView) → CanBegin plan →
         WorldRun S.rule M.rule H.rule (booted plan limits) moments old → Settles S.rule M.rule H.rule asked old (Settled rounds) new →
-        new.steps < 4294967295 → (pod : ℕ) → IsWholePod new pod → ReceiversArePlaced new pod }
+        (pod : ℕ) → IsWholePod new pod → ReceiversArePlaced new pod }
 {}

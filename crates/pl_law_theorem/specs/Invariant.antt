@@ -6,6 +6,7 @@ use Rattle.pl_journal.specs.Lossy.{GoodTrail, Run}
 use Rattle.pl_node.specs.ManagerDuties.{with_number}
 use Rattle.pl_node.specs.ManagerViews.{Registration, registration}
 use Rattle.pl_node.specs.SwitchViews.{SwitchView}
+use Rattle.pl_world.specs.Restarting.{CountsRestarts}
 use Rattle.pl_world.specs.Worlds.{WorldView}
 use Rattle.pl_fabric.specs.Settled.{IsSettled}
 use Rattle.pl_law_control_plane.specs.ControlPlanes.{ControlPlane, control_plane}
@@ -19,6 +20,7 @@ use Rattle.pl_law_copies.specs.Alone.{AreAlone}
 use Rattle.pl_law_copies.specs.Copies.{ComesOnce}
 use Rattle.pl_law_copies.specs.Standing.{KnowTrees}
 use Rattle.pl_law_members.specs.Joined.{HaveJoined}
+use Rattle.pl_law_ledger.specs.Leading.{AreLed}
 use Rattle.pl_law_ledger.specs.Ledgers.{AreInBounds, IsLedger}
 use Rattle.pl_law_registration.specs.BeingRegistered.{AreBeingRegistered, AreRemembered, NothingWaits, AreAttachedApart}
 use Rattle.pl_law_registration.specs.Registering.{AreRegistered}
@@ -44,6 +46,8 @@ pub record HostsAreInOrder (w : WorldView) : Type 0 where
   pub being_registered : AreBeingRegistered w
   -- the journal's grants are those of the switches, to hosts that stood there, and its numbers are those of the manager
   pub granted : IsLedger w
+  -- each trap that stands at its edge switch, or waits for it, leads to a newer address of the same host, and both addresses are live
+  pub led : AreLed w
   pub stood : AreStoodFor w.plan (reverse w.journal)
 
 -- What the manager knows, and what it ordered.
@@ -76,6 +80,8 @@ pub record NetworkInvariant (w : WorldView) : Type 0 where
   pub hosts : HostsAreInOrder w
   pub records : RecordsAreInOrder (control_plane w)
   pub copies : CopiesAreInOrder w
+  -- the manager knows how often it has restarted
+  pub restarts : CountsRestarts w
   -- hosts have joined the groups that their frames said
   pub joined : HaveJoined w
   -- each frame that has not ended waits where the journal says, and the journal is a run of one lossy switch with good trails
@@ -86,6 +92,6 @@ pub record NetworkInvariant (w : WorldView) : Type 0 where
   pub written : (s : ℕ) (v : SwitchView) → slice_get w.switches s ≡ Some v → place_written (reverse w.journal) s ≡ v.place
   pub numbered : (x : Pmac) (r : Registration) → registration w.manager.learnt x ≡ Some r → last_registration w.journal x ≡ Some (with_number r)
   -- where the fabric is settled, each edge switch that received a frame of a host, in a pod that lacks no link, knows its whole place
-  pub placed : IsSettled w → w.steps < 4294967295 → (pod : ℕ) → IsWholePod w pod → ReceiversArePlaced w pod
+  pub placed : IsSettled w → (pod : ℕ) → IsWholePod w pod → ReceiversArePlaced w pod
   -- where nothing waits, each host is registered that its edge switch could learn of
   pub registered : NothingWaits w → AreRegistered w

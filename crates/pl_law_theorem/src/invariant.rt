@@ -16,7 +16,8 @@ use pl_law_invariant::{
     lawful_logic_keeps_all_of_it,
 };
 use pl_law_ledger::{
-    each_number_given_is_below_the_number_of_pods, pods_and_positions_are_of_one_byte_in_every_run,
+    each_number_given_is_below_the_number_of_pods, each_trap_leads_to_a_newer_address_in_every_run,
+    pods_and_positions_are_of_one_byte_in_every_run,
     the_journal_says_what_was_granted_in_every_run,
 };
 use pl_law_members::hosts_have_joined_what_their_frames_said_in_every_run;
@@ -33,7 +34,7 @@ use pl_law_registration::{
     lawful_logic_registers_hosts_at_rest, no_two_hosts_stand_at_one_place,
     unplaced_edge_switches_remember_hosts,
 };
-use pl_law_runs::each_run_is_a_loose_run;
+use pl_law_runs::{each_run_is_a_loose_run, restarts_are_counted_in_every_run};
 use pl_law_settled::settled_runs_have_current_records_and_positions;
 use pl_manager_rule::LawfulManager;
 use pl_node::HostLogic;
@@ -56,6 +57,7 @@ pub fn hosts_are_in_order_in_every_run<H: LawfulHost>()
     hosts_are_being_registered_in_every_run::<H>();
     unplaced_edge_switches_remember_hosts::<H>();
     the_journal_says_what_was_granted_in_every_run::<H>();
+    each_trap_leads_to_a_newer_address_in_every_run::<H>();
     addresses_are_granted_where_hosts_stood::<H>();
 }
 
@@ -93,6 +95,7 @@ pub fn lawful_logic_keeps_the_invariant<S: LooseSwitch, M: LawfulManager, H: Law
     hosts_are_in_order_in_every_run::<H>();
     records_are_in_order_in_every_run::<H>();
     copies_are_in_order_in_every_run::<H>();
+    restarts_are_counted_in_every_run::<S, M, H>();
     hosts_have_joined_what_their_frames_said_in_every_run::<M, H>();
     places_are_what_was_written_last_in_every_run::<S, M, H>();
     addresses_are_registered_in_order_in_every_run::<S, M, H>();

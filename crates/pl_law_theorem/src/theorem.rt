@@ -6,7 +6,7 @@ use crate::invariant::lawful_logic_keeps_the_invariant;
 use pl_host_rule::LawfulHost;
 use pl_law_arrival::{a_sure_frame_has_no_other_end, a_sure_frame_that_ends_has_arrived};
 use pl_law_invariant::lawful_logic_grants_no_address_while_anything_stands_for_it;
-use pl_law_runs::each_run_keeps_the_wiring;
+use pl_law_runs::{a_switch_drops_frames_for_the_first_cause, each_run_keeps_the_wiring};
 use pl_manager_rule::LawfulManager;
 use pl_switch_rule::LooseSwitch;
 
@@ -28,5 +28,6 @@ pub fn lawful_logic_is_one_switch<S: LooseSwitch, M: LawfulManager, H: LawfulHos
     lawful_logic_keeps_the_invariant::<S, M, H>();
     sure_frames_arrive::<S, M, H>();
     lawful_logic_grants_no_address_while_anything_stands_for_it::<S, M, H>();
+    a_switch_drops_frames_for_the_first_cause::<S, M, H>();
     each_run_keeps_the_wiring::<S, M, H>();
 }

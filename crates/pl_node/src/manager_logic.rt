@@ -52,7 +52,7 @@ pub trait ManagerLogic: Drop {
     fn reported(&self) -> usize
         ensures { result ≡ length (view self.now).ended };
 
-    /// The newest pseudo address of the host that has an IPv4 address; none where that was never learnt.
+    /// The newest pseudo address of the host that has an IPv4 address; none where that was never learnt or was released.
     fn lookup(&self, ip: Ip4) -> Option<Pmac>
         ensures { result ≡ lookup (view self.now).learnt ip };
 

@@ -14,7 +14,7 @@ use Rattle.pl_journal.specs.Causes.{goes_to_group}
 use Rattle.pl_journal.specs.Flights.{begun, ends, is_begun, is_flying}
 use Rattle.pl_journal.specs.Lossy.{RunTo}
 use Rattle.pl_journal.proofs.Exports.{begun_within, within_begun}
-use Rattle.pl_past.specs.Kept.{kept, touched_by}
+use Rattle.pl_past.specs.Kept.{Kept, kept, touched_by}
 use Rattle.pl_past.proofs.Exports.{others_stay}
 use Rattle.pl_past_tables.specs.declared.row.Row.{Row}
 use Rattle.pl_past_tables.specs.Frames.{IsRow, KeepsFrames}
@@ -110,9 +110,12 @@ some_group mac = by (is_group mac) (is_ip_group mac && nat_le 256 (big_number 3 
     by true false = refl
     by false t = refl
 
+pub group_of_row : (text : List ℕ) (row : Row) (frame : Kept) → IsRow text row frame → is_some row.carried.group ≡ is_group (destination_of frame.beginning)
+group_of_row text row frame is = ap (λ (o : Option ℕ). is_some o) (is.carried.group) ∙ some_group (destination_of frame.beginning)
+
 pub group_by_row : (plan : Plan) (text : List ℕ) (past : List Entry) (id : ℕ) (row : Row) → IsRow text row (kept plan past id) →
     is_some row.carried.group ≡ goes_to_group past id
-group_by_row plan text past id row is = ap (λ (o : Option ℕ). is_some o) (is.carried.group) ∙ some_group (destination_of (kept plan past id).beginning)
+group_by_row plan text past id row is = group_of_row text row (kept plan past id) is
 
 pub none_is_not_some : (o : Option ℕ) → is_none o ≡ true → is_some o ≡ false
 none_is_not_some None is = refl

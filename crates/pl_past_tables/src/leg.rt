@@ -45,17 +45,17 @@ impl Leg {
         }
     }
 
-    /// Whether the leg and this switch behind it are at most five switches, all different, whose levels
-    /// rise and then fall.
-    pub fn goes_on_to(self, k: u8, s: SwitchNo) -> bool
-        ensures { result ≡ is_good_leg k (s.0 ∷ switches_of self) }
+    /// Whether the leg and this switch behind it are at most five switches whose levels rise and then
+    /// fall, and all different where the frame goes to one host.
+    pub fn goes_on_to(self, to_group: bool, k: u8, s: SwitchNo) -> bool
+        ensures { result ≡ is_good_leg to_group k (s.0 ∷ switches_of self) }
     {
         match self {
-            Leg::Empty => is_good_leg(k, &[s]),
-            Leg::One(a) => is_good_leg(k, &[s, a]),
-            Leg::Two(a, b) => is_good_leg(k, &[s, a, b]),
-            Leg::Three(a, b, c) => is_good_leg(k, &[s, a, b, c]),
-            Leg::Four(a, b, c, d) => is_good_leg(k, &[s, a, b, c, d]),
+            Leg::Empty => is_good_leg(to_group, k, &[s]),
+            Leg::One(a) => is_good_leg(to_group, k, &[s, a]),
+            Leg::Two(a, b) => is_good_leg(to_group, k, &[s, a, b]),
+            Leg::Three(a, b, c) => is_good_leg(to_group, k, &[s, a, b, c]),
+            Leg::Four(a, b, c, d) => is_good_leg(to_group, k, &[s, a, b, c, d]),
             Leg::Five(..) => false,
         }
     }
@@ -106,10 +106,10 @@ impl Trail {
     }
 }
 
-fn is_good_leg(k: u8, switches: &[SwitchNo]) -> bool
-    ensures { result ≡ is_good_leg k (numbers switches.now) }
+fn is_good_leg(to_group: bool, k: u8, switches: &[SwitchNo]) -> bool
+    ensures { result ≡ is_good_leg to_group k (numbers switches.now) }
 {
-    switches.len() <= 5 && are_different(switches) && rises_and_falls(k, switches)
+    switches.len() <= 5 && (to_group || are_different(switches)) && rises_and_falls(k, switches)
 }
 
 fn are_different(switches: &[SwitchNo]) -> bool

@@ -7,7 +7,7 @@ use Rattle.pl_inputs.specs.declared.words.Network.{Network}
 use Rattle.pl_inputs.specs.declared.words.Network.TheVariants.{Bridges, Fabric}
 use Rattle.pl_inputs.specs.Inputs.{Inputs}
 use Rattle.pl_inputs.specs.Loaded.{files_of}
-use Rattle.pl_inputs.specs.Records.{Recorded, records_of as records_walked}
+use Rattle.pl_inputs.specs.Records.{records_of as records_walked}
 use Rattle.pl_journal.specs.declared.entry.Entry.{Entry}
 use Rattle.pl_journal.specs.Savable.{IsSavable}
 use Rattle.pl_script.specs.declared.script.ScriptLine.{ScriptLine}
@@ -31,7 +31,7 @@ use Rattle.pl_inputs.specs.declared.status.Status.TheVariants as status
 use Rattle.pl_world.specs.declared.error.StepError.TheVariants as error
 use Rattle.pl_playing.specs.Networks.{PlaysTo}
 use Rattle.pl_journal.specs.Ranges.{Fits}
-use Rattle.pl_playing.specs.Outcomes.{Comes, Course, EndsSaving, IsPlayed, IsStopped, Play, SavingFails, Saves, fits_of, nothing_of, outcome, printed_of, records_of, rests_from, run_limits, summary_of, texts_of}
+use Rattle.pl_playing.specs.Outcomes.{Comes, Course, EndsSaving, IsPlayed, IsStopped, Play, SavingFails, Saves, fits_of, nothing_of, outcome, printed_of, rests_from, run_limits, summary_of, texts_of}
 use Rattle.pl_playing.specs.Plays.{IsPlayedOver, IsPlayedTo, IsUnplayed, Played, printed_by, summary_by, texts_by}
 use Rattle.pl_playing.proofs.Remaining.{records_are}
 

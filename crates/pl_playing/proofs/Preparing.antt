@@ -1,5 +1,5 @@
 -- Over a shelf that is prepared no call fails.
-use Rattle.std.proofs.Common.{◌≡◌, ℕ, ◌↔◌, Bool, IsTrue, List, Option, refl, sym, subst}
+use Rattle.std.proofs.Common.{ℕ, ◌↔◌, Bool, IsTrue, List, Option, refl, sym, subst}
 use Rattle.pl_shelf.specs.Held.{Held}
 use Rattle.pl_inputs.specs.declared.status.Status.{Status}
 use Rattle.pl_inputs.specs.Inputs.{Inputs}

@@ -1,5 +1,5 @@
 -- The networks that a script may be played on: the fabric, and learning bridges on the tree of its links.
-use Rattle.std.specs.Prelude.{◌≡◌, ◌≤◌, ℕ, List, map, reverse, Option, Some, slice_get}
+use Rattle.std.specs.Prelude.{◌≡◌, ◌≤◌, ℕ, List, map, reverse, Some, slice_get}
 use Rattle.std.specs.List.{AllByRecursion}
 use Rattle.pl_wiring.specs.declared.host.Host.{Host}
 use Rattle.pl_wiring.specs.declared.label.SwitchNo.{SwitchNo}
@@ -18,6 +18,7 @@ use Rattle.pl_bridge_rule.specs.Tree.{IsWay}
 use Rattle.pl_fabric.specs.Drains.{IsDrained}
 use Rattle.pl_fabric.specs.Settled.{IsSettled}
 use Rattle.pl_law_bridge.specs.ExactWay.{IsSure, WentBy}
+use Rattle.pl_law_bridge.specs.GoingOut.{times_gone_out}
 use Rattle.pl_law_bridge.specs.Reaching.{times_reached}
 use Rattle.pl_law_bridge.specs.Reaching.Target.{Arrival, Crossing}
 use Rattle.pl_law_bridge.specs.Travelling.{ArriveAsSent, times_on}
@@ -62,6 +63,10 @@ module _ (switch : SwitchRule) (manager : ManagerRule) (host : HostRule) where
         AllByRecursion RepairsNothing before → WorldRun switch manager host (tree_world i.plan run_limits) before old →
         IsSure manager host old moments new id h g frame way → 1 ≤ ends new.journal id → WorldRun switch manager host new more scene.world →
         WentBy scene.world id g frame way
+    -- at most one frame of each root goes out of each port for hosts, whoever stands there and whatever becomes of it
+    pub goes_out : (moments : List Moment) (run : WorldRun switch manager host (tree_world i.plan run_limits) moments scene.world) (r : ℕ) (there : EdgePort) →
+        AllByRecursion RepairsNothing moments →
+        times_gone_out switch manager host (tree_world i.plan run_limits) moments scene.world run r there ≤ 1
 
   abbrev pub on_fabric : Play
   on_fabric = record { leads = PlaysTo Fabric; known = IsKnownOfFabric; rests = IsSettled }

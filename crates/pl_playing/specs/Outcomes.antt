@@ -1,7 +1,7 @@
 -- What comes of inputs that are played.
 use Rattle.std.specs.Prelude.{All, ◌≡◌, ◌≤◌, ◌↔◌, ℕ, suc, ◌-◌, Bool, IsTrue, List, [], ◌∷◌, length, map, slice_get, Option, None, Some}
 use Rattle.std.specs.Option.{option_map_or}
-use Rattle.pl_shelf.specs.Held.{Held, Same, ShelfMoment, standard_output}
+use Rattle.pl_shelf.specs.Held.{Same, ShelfMoment, standard_output}
 use Rattle.pl_shelf.specs.Faults.{Rose}
 use Rattle.pl_inputs.specs.declared.status.Status.{Status}
 use Rattle.pl_inputs.specs.Inputs.{Inputs}

@@ -11,6 +11,7 @@ use pl_inputs::{Capture, Inputs, Network, Status};
 use pl_law_bridge::{
     a_frame_goes_the_way_that_is_learnt, a_line_of_crossings_is_a_path_of_the_tree,
     frames_arrive_as_they_were_sent, no_switch_is_crossed_twice, one_copy_arrives_at_each_port,
+    one_copy_goes_out_of_each_port, the_first_world_keeps_to_the_tree,
 };
 use pl_law_runs::{each_run_keeps_the_wiring, every_entry_can_be_saved};
 use pl_node::{HostLogic, ManagerLogic};
@@ -41,6 +42,8 @@ pub(crate) fn play_on_bridges<S: LearningBridge, M: ManagerLogic, H: HostLogic>(
     one_copy_arrives_at_each_port();
     frames_arrive_as_they_were_sent();
     a_frame_goes_the_way_that_is_learnt::<M, H>();
+    one_copy_goes_out_of_each_port::<M, H>();
+    the_first_world_keeps_to_the_tree();
     // The laws are of plans, and the wiring's is one.
     let _hosts = inputs.wiring.hosts();
     play_script(alloc, Network::Bridges, inputs)

@@ -1,5 +1,5 @@
 -- The run, computed.
-use Rattle.std.proofs.Common.{◌≡◌, true, false, List, [], ◌∷◌, ◌++◌, Option, Some, None, option_map, refl}
+use Rattle.std.proofs.Common.{◌≡◌, true, false, List, [], ◌∷◌, ◌++◌, Option, Some, option_map, refl}
 use Rattle.std.specs.List.{list_any}
 use Rattle.hex.specs.Hex.{decode_pairs}
 use Rattle.pl_layouts.specs.ArpFrames.{arp_frame}

@@ -10,7 +10,7 @@ use Rattle.pl_world.specs.QueueOrder.{next_queue, queue_at}
 use Rattle.pl_world.specs.Runs.{Befalls, Moment, WorldRun}
 use Rattle.pl_world.specs.Runs.Moment.{Step}
 use Rattle.pl_world.specs.Worlds.{WorldView}
-use Rattle.pl_sure_example.specs.Executing.{advance, advanced, all_made, made, swept, then_made}
+use Rattle.pl_sure_example.specs.Executing.{advance, advanced, all_made, swept, then_made}
 use Rattle.pl_sure_example.proofs.Steps.{made_is}
 
 module _ (start : WorldView) where

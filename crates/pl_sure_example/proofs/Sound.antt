@@ -1,8 +1,8 @@
 -- What is decided of a world is so.
-use Rattle.std.proofs.Common.{◌≡◌, ℕ, zero, suc, ◌+◌, ◌<◌, ◌==◌, ◌&&◌, ◌||◌, not, Bool, true, false, true≢false, List, [], ◌∷◌, length, Option, Some, None, is_none, slice_get, Contains, refl, sym, ap, ◌∙◌, subst, arith, eqb-true, inl, inr, get_or}
+use Rattle.std.proofs.Common.{◌≡◌, ℕ, zero, suc, ◌+◌, ◌==◌, ◌&&◌, ◌||◌, not, Bool, true, false, true≢false, List, [], ◌∷◌, Option, Some, None, is_none, slice_get, Contains, refl, sym, ap, ◌∙◌, subst, arith, eqb-true, inl, inr}
 use Rattle.std.specs.List.{list_any, range_with_len}
 use Rattle.std.proofs.lemmas.Bool.{and_parts, cases_Bool, not-true}
-use Rattle.std.proofs.lemmas.Option.{none-some, same_Some, slice_get-get_or, slice_get_within}
+use Rattle.std.proofs.lemmas.Option.{none-some, same_Some, slice_get-get_or}
 use Rattle.pl_frame.specs.declared.address.SwitchId.{SwitchId}
 use Rattle.pl_layouts.specs.declared.place.Place.{Place}
 use Rattle.pl_wiring.specs.declared.link.Peer.{Peer}
@@ -10,24 +10,20 @@ use Rattle.pl_wiring.specs.declared.link.Peer.TheVariants.{HostPort, Switch}
 use Rattle.pl_wiring.specs.Labels.{switch_count}
 use Rattle.pl_wiring.specs.LiveLinks.{is_live_at}
 use Rattle.pl_wiring.specs.Peers.{peer_of}
-use Rattle.pl_node.specs.declared.messages.ToManager.{ToManager}
-use Rattle.pl_node.specs.declared.messages.ToSwitch.{ToSwitch}
 use Rattle.pl_node.specs.declared.neighbour.Neighbour.{Neighbour}
 use Rattle.pl_node.specs.AvoidLists.{avoid_list}
-use Rattle.pl_node.specs.ManagerFacts.{group_at, groups}
+use Rattle.pl_node.specs.ManagerFacts.{groups}
 use Rattle.pl_node.specs.ManagerViews.{ManagerView, is_told_usable, place_of}
 use Rattle.pl_node.specs.PortRecords.{is_usable, port_of}
-use Rattle.pl_node.specs.SwitchFacts.{IsAnnounced, group_of_part, part_of}
+use Rattle.pl_node.specs.SwitchFacts.{group_of_part, part_of}
 use Rattle.pl_node.specs.SwitchViews.{SwitchView}
 use Rattle.pl_node.specs.Trees.{tree_part}
-use Rattle.pl_fabric.specs.Settled.{HasPart, IsSettled, IsSettledEnd, IsSettledSwitch, IsSettledTowards, announced_at, group_limit, has_reports, would_change}
+use Rattle.pl_fabric.specs.Settled.{HasPart, IsSettled, IsSettledEnd, IsSettledSwitch, IsSettledTowards, announced_at, has_reports, would_change}
 use Rattle.pl_fabric.proofs.Exports.{any_below}
 use Rattle.pl_queues.specs.Queues.{has_items, items_at}
 use Rattle.pl_queues.proofs.Exports.{no_items}
-use Rattle.pl_world.specs.declared.item.Item.{Item}
-use Rattle.pl_world.specs.declared.item.Item.TheVariants.{Control, Data}
+use Rattle.pl_world.specs.declared.item.Item.TheVariants.{Control}
 use Rattle.pl_world.specs.Changes.{out_of}
-use Rattle.pl_world.specs.SettledQueues.{HasSettledQueues, IsQuestion, IsReply}
 use Rattle.pl_world.specs.Worlds.{WorldView}
 use Rattle.pl_sure_example.specs.Deciding.{are_settled, has_part, hears_of, is_control_item, is_current, is_settled_end, is_settled_switch, is_settled_to, is_settled_towards, is_settled_world, is_unsettled_port, same_bool, same_id, same_number, same_place}
 

@@ -1,11 +1,10 @@
 -- A step that is computed is one of the world.
-use Rattle.std.proofs.Common.{◌≡◌, ℕ, zero, suc, ◌+◌, Bool, true, false, List, [], ◌∷◌, Option, Some, None, is_none, slice_get, refl, sym, ap, ◌∙◌}
+use Rattle.std.proofs.Common.{◌≡◌, ℕ, ◌+◌, false, List, [], ◌∷◌, Option, Some, None, is_none, slice_get, refl, sym, ap, ◌∙◌}
 use Rattle.std.proofs.lemmas.Option.{none-some, same_Some}
 use Rattle.pl_frame.specs.declared.address.SwitchId.{SwitchId}
 use Rattle.pl_wiring.specs.declared.link.Link.{Link}
 use Rattle.pl_wiring.specs.declared.link.Peer.{Peer}
 use Rattle.pl_wiring.specs.declared.link.Peer.TheVariants.{HostPort, Switch}
-use Rattle.pl_wiring.specs.Index.{port_index}
 use Rattle.pl_wiring.specs.Peers.{peer_of}
 use Rattle.pl_node.specs.declared.messages.ToManager.{ToManager}
 use Rattle.pl_node.specs.declared.messages.ToSwitch.{ToSwitch}
@@ -41,7 +40,7 @@ use Rattle.pl_world.specs.Runs.Moment.{Step}
 use Rattle.pl_world.specs.WorldRule.{ComesAtHost, ComesAtSwitch, ComesIn, ComesOut, ComesOver, Delivers, DeliversFromHost, DeliversFromManager, DeliversOut, DeliversToManager, LinkFails, Happens, HostPlays, HostReceives, HostTurn, ManagerTurn, SwitchTurn}
 use Rattle.pl_world.specs.Worlds.{WorldView}
 use Rattle.pl_queues.specs.Queues.{items_at}
-use Rattle.pl_sure_example.specs.Executing.{comes_at_host, comes_at_switch, comes_in, comes_out, comes_over, delivered, failed, from_host, from_manager, happened, host_turns, made, made_if, manager_turn, out_by, played, played_by, plays, received, received_as, receives, switch_turn, switch_turns, to_manager}
+use Rattle.pl_sure_example.specs.Executing.{comes_at_host, comes_at_switch, comes_in, comes_out, comes_over, delivered, failed, from_host, from_manager, happened, host_turns, made, made_if, manager_turn, out_by, played_by, plays, received_as, receives, switch_turn, switch_turns, to_manager}
 
 switch_turn_is : (w : WorldView) (s : ℕ) (input : SwitchInput) (speech : SpokenFrame) (new : WorldView) → switch_turn w s input speech ≡ Some new → SwitchTurn Exact w s input speech new
 switch_turn_is w s input speech new is = by (slice_get w.switches s) refl is

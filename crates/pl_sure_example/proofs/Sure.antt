@@ -5,7 +5,6 @@ use Rattle.std.specs.Option.{option_and_then}
 use Rattle.std.proofs.lemmas.Option.{same_Some, slice_get-get_or, slice_get_within}
 use Rattle.hex.specs.Hex.{decode_pairs}
 use Rattle.pl_lemmas.proofs.Exports.{and_then_some, option_map_some}
-use Rattle.pl_frame.specs.declared.address.Ip4.{Ip4}
 use Rattle.pl_frame.specs.declared.address.Mac.{Mac}
 use Rattle.pl_pmac.specs.declared.pmac.Pmac.{Pmac}
 use Rattle.pl_wiring.specs.declared.host.Host.{Host}
@@ -25,7 +24,6 @@ use Rattle.pl_law_arrival.specs.Reach.{IsUnicastTo}
 use Rattle.pl_law_arrival.specs.SureFrames.{IsSureMoment}
 use Rattle.pl_examples.specs.ExampleFrames.{a_to_b, a_to_b_arrived, mac_a, mac_b, pmac_a, pmac_b}
 use Rattle.pl_examples.specs.FirstPath.{a, b, e00, two_hosts}
-use Rattle.pl_sure_example.specs.Deciding.{is_settled_world}
 use Rattle.pl_sure_example.specs.Executing.{made, then_made}
 use Rattle.pl_sure_example.specs.Scene.{Known, Snapshot, comes, is_sent, known_as, known_of, leaves, plays, registered_as, snapshot, start, sure_with}
 use Rattle.pl_sure_example.specs.Worked.{IsWorked}
@@ -38,9 +36,9 @@ contains_at xs n x is =
     let within = slice_get_within xs n x is in (n, within, same_Some _ x (sym (slice_get-get_or xs n x within) ∙ is))
 
 -- a host that is registered by the address of its port
-abbrev registered : (w : WorldView) (h ip n : ℕ) (mac : Mac) (x : Pmac) (host : Host) → slice_get two_hosts.hosts h ≡ Some host → host.mac ≡ mac →
-    host.ip ≡ record { 0 = ip } → known_of h mac x w ≡ known_as h mac ip x n → IsRegisteredBy w h x
-registered w h ip n mac x host at own own_ip is =
+abbrev registered : (w : WorldView) (h n : ℕ) (mac : Mac) (x : Pmac) (host : Host) → slice_get two_hosts.hosts h ≡ Some host → host.mac ≡ mac →
+    known_of h mac x w ≡ known_as h mac x n → IsRegisteredBy w h x
+registered w h n mac x host at own is =
     let one = option_map_some (λ (g : Grant). (g.amac, is_in_use g.held)) (option_and_then (λ (v : SwitchView). granted v x) (slice_get w.switches 0)) (mac, true)
     (ap (λ (k : Known). k.grant) is) in
     let grant = and_then_some (λ (v : SwitchView). granted v x) (slice_get w.switches 0) one.0 one.1 in
@@ -49,7 +47,7 @@ registered w h ip n mac x host at own own_ip is =
       is = ap (λ (k : Known). k.host) is ∙ at;
       attachment = record { edge = e00; port = x.port };
       attachments = ap (λ (k : Known). k.attachment) is;
-      newest_one = registered_as mac ip x n;
+      newest_one = registered_as mac x n;
       is_newest = ap (λ m. newest w.manager.learnt m) own ∙ ap (λ (k : Known). k.newest_one) is;
       address = refl;
       edge = grant.0;
@@ -59,12 +57,6 @@ registered w h ip n mac x host at own own_ip is =
       used = ap (λ (p : Mac × Bool). p.1) one.2;
       by_host = ap (λ (p : Mac × Bool). p.0) one.2 ∙ sym own;
       at_port = refl;
-      knows_ip = record {
-        told = registered_as mac ip x n;
-        found = ap (λ (k : Known). k.told) is;
-        for_host = sym own;
-        with_ip = ap (λ (k : Known). k.ip) is ∙ ap Some (sym own_ip);
-      };
     }
 
 -- the path of one switch
@@ -91,8 +83,8 @@ sure_moment : (w : WorldView) (was_sent : Bool) (ended : ℕ) (last : Option Ent
 sure_moment w was_sent ended last is = record {
   settled = settled_is w (ap (λ (s : Snapshot). s.settled) is);
   reaches = record {
-    from = (pmac_a, registered w 0 0x0a000001 1 mac_a pmac_a _ refl refl refl (ap (λ (s : Snapshot). s.known_a) is));
-    to = registered w 1 0x0a000002 2 mac_b pmac_b _ refl refl refl (ap (λ (s : Snapshot). s.known_b) is);
+    from = (pmac_a, registered w 0 1 mac_a pmac_a _ refl refl (ap (λ (s : Snapshot). s.known_a) is));
+    to = registered w 1 2 mac_b pmac_b _ refl refl (ap (λ (s : Snapshot). s.known_b) is);
     path = e00 ∷ [];
     adjacent = alone w (ap (λ (s : Snapshot). s.k) is);
   };

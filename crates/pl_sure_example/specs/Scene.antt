@@ -1,17 +1,15 @@
 -- Two hosts stand at ports 0 and 1 of e0.0. All links fail but the two of that switch, and it gets its place and grants its hosts addresses.
-use Rattle.std.specs.Prelude.{◌≡◌, ℕ, ◌-◌, ◌==◌, Bool, true, false, List, [], ◌∷◌, ◌++◌, Option, Some, None, length, drop, map, option_map, slice_get}
+use Rattle.std.specs.Prelude.{ℕ, ◌-◌, ◌==◌, Bool, true, false, List, [], ◌∷◌, ◌++◌, Option, Some, length, drop, map, option_map, slice_get}
 use Rattle.std.specs.List.{list_any}
 use Rattle.std.specs.Option.{option_and_then}
-use Rattle.pl_frame.specs.declared.address.Ip4.{Ip4}
 use Rattle.pl_frame.specs.declared.address.Mac.{Mac}
 use Rattle.pl_pmac.specs.declared.pmac.Pmac.{Pmac}
 use Rattle.pl_wiring.specs.declared.host.Host.{Host}
-use Rattle.pl_wiring.specs.declared.link.Link.{Link}
 use Rattle.pl_journal.specs.declared.entry.Entry.{Entry}
 use Rattle.pl_journal.specs.declared.entry.Entry.TheVariants.{Sent}
 use Rattle.pl_journal.specs.Flights.{ends}
 use Rattle.pl_node.specs.AddressUses.{is_in_use}
-use Rattle.pl_node.specs.ManagerViews.{Registration, ip_of, newest, registration}
+use Rattle.pl_node.specs.ManagerViews.{Registration, newest}
 use Rattle.pl_switch_rule.specs.Granting.{granted}
 use Rattle.pl_world.specs.declared.event.Event.{Event}
 use Rattle.pl_world.specs.declared.event.Event.TheVariants as event
@@ -20,7 +18,7 @@ use Rattle.pl_world.specs.declared.limits.Limits.{Limits}
 use Rattle.pl_world.specs.declared.attachment.AttachmentPoint.{AttachmentPoint}
 use Rattle.pl_world.specs.Booting.{booted}
 use Rattle.pl_world.specs.Worlds.{WorldView}
-use Rattle.pl_examples.specs.ExampleFrames.{a_to_b, a_to_b_arrived, mac_a, mac_b, pmac_a, pmac_b}
+use Rattle.pl_examples.specs.ExampleFrames.{a_to_b, mac_a, mac_b, pmac_a, pmac_b}
 use Rattle.pl_examples.specs.FirstPath.{a, b, e00, switch, two_hosts}
 use Rattle.pl_sure_example.specs.Deciding.{is_settled_world}
 use Rattle.pl_sure_example.specs.Executing.{all_made, swept, then_made}
@@ -75,8 +73,6 @@ pub record Known : Type 0 where
   pub newest_one : Option Registration
   -- the host to which the address was granted, and whether it uses it
   pub grant : Option (Mac × Bool)
-  pub told : Option Registration
-  pub ip : Option Ip4
 
 abbrev pub known_of : ℕ → Mac → Pmac → WorldView → Known
 known_of h mac x w = record {
@@ -84,22 +80,18 @@ known_of h mac x w = record {
   attachment = slice_get w.attachments h;
   newest_one = newest w.manager.learnt mac;
   grant = option_map (λ g. (g.amac, is_in_use g.held)) (option_and_then (λ v. granted v x) (slice_get w.switches 0));
-  told = registration w.manager.learnt x;
-  ip = ip_of w.manager.learnt x;
 }
 
-abbrev pub registered_as : Mac → ℕ → Pmac → ℕ → Registration
-registered_as mac ip x n = record { pmac = x; amac = mac; number = n; switch = record { 0 = 1 } }
+abbrev pub registered_as : Mac → Pmac → ℕ → Registration
+registered_as mac x n = record { pmac = x; amac = mac; number = n; switch = record { 0 = 1 } }
 
 -- each is, by the address of its port
-abbrev pub known_as : ℕ → Mac → ℕ → Pmac → ℕ → Known
-known_as h mac ip x n = record {
+abbrev pub known_as : ℕ → Mac → Pmac → ℕ → Known
+known_as h mac x n = record {
   host = slice_get two_hosts.hosts h;
   attachment = Some (record { edge = e00; port = x.port });
-  newest_one = Some (registered_as mac ip x n);
+  newest_one = Some (registered_as mac x n);
   grant = Some (mac, true);
-  told = Some (registered_as mac ip x n);
-  ip = Some (record { 0 = ip });
 }
 
 abbrev pub is_sent : ℕ → Entry → Bool
@@ -132,8 +124,8 @@ snapshot w = record {
 abbrev pub sure_with : Bool → ℕ → Option Entry → Snapshot
 sure_with was_sent ended last = record {
   settled = true;
-  known_a = known_as 0 mac_a 0x0a000001 pmac_a 1;
-  known_b = known_as 1 mac_b 0x0a000002 pmac_b 2;
+  known_a = known_as 0 mac_a pmac_a 1;
+  known_b = known_as 1 mac_b pmac_b 2;
   k = 4;
   was_sent = was_sent;
   ended = ended;

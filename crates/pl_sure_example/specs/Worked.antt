@@ -1,5 +1,5 @@
 -- A run in which a frame is sure.
-use Rattle.std.specs.Prelude.{◌≡◌, ◌≤◌, ℕ, Contains, List}
+use Rattle.std.specs.Prelude.{◌≡◌, Contains, List}
 use Rattle.pl_journal.specs.declared.entry.Entry.TheVariants.{Arrived}
 use Rattle.pl_journal.specs.Flights.{ends}
 use Rattle.pl_host_rule.specs.HostRule.{host_rule}

@@ -1,9 +1,9 @@
 //! The world as definitions: the switches, hosts and manager of a fabric, and the queues between them.
 //!
 //! A world goes on by events. One event is one step of one actor: the head of one queue is delivered, one
-//! switch ticks, one host acts, one link fails or is repaired, one item is lost, or one host moves.
-//! `specs/WorldRule.antt` says what each event does, over whatever rules the switches, the manager and the
-//! hosts have; so what holds of each event holds in each order of events. The laws here hold of any rules.
+//! switch ticks, one host acts, one link fails or is repaired, one item is lost, one host moves, or the manager
+//! restarts. `specs/WorldRule.antt` says what each event does, over whatever rules switches, manager and hosts
+//! have; so what holds of each event holds in each order of events. The laws here hold of any rules.
 #![tactic(auto)]
 
 pub use attachment::AttachmentPoint;

@@ -28,9 +28,9 @@ returns g c =
       settles = c.settle.ensures.settles;
       refused = c.settle.ensures.refused;
       placed = IfOk-weaker c.settle.result (λ answer. Settles g.S.SwitchLogic.rule g.M.ManagerLogic.rule g.H.HostLogic.rule asked old answer new)
-          (λ answer. (used : ℕ) → answer ≡ Settled used → new.steps < 4294967295 → (pod : ℕ) → IsWholePod new pod → ReceiversArePlaced new pod)
-          (λ answer settles used is few pod whole. (holds (ran answer settles)).invariant.placed
-          (is_settled_then g.S.SwitchLogic.rule g.M.ManagerLogic.rule g.H.HostLogic.rule asked old new answer settles used is) few pod whole)
+          (λ answer. (used : ℕ) → answer ≡ Settled used → (pod : ℕ) → IsWholePod new pod → ReceiversArePlaced new pod)
+          (λ answer settles used is pod whole. (holds (ran answer settles)).invariant.placed
+          (is_settled_then g.S.SwitchLogic.rule g.M.ManagerLogic.rule g.H.HostLogic.rule asked old new answer settles used is) pod whole)
           c.settle.ensures.settles;
       registered = IfOk-weaker c.settle.result (λ answer. Settles g.S.SwitchLogic.rule g.M.ManagerLogic.rule g.H.HostLogic.rule asked old answer new)
           (λ answer. (used : ℕ) → answer ≡ Settled used → used < asked → AreRegistered new)

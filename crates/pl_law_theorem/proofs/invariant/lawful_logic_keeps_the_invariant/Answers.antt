@@ -11,6 +11,7 @@ returns g c = λ plan limits moments new can run few.
       hosts = c.hosts_are_in_order_in_every_run.ensures plan limits moments new can ruled few;
       records = c.records_are_in_order_in_every_run.ensures plan limits moments new can ruled;
       copies = c.copies_are_in_order_in_every_run.ensures plan limits moments new can ruled;
+      restarts = c.restarts_are_counted_in_every_run.ensures plan limits moments new can run;
       joined = c.hosts_have_joined_what_their_frames_said_in_every_run.ensures plan limits moments new can loose;
       journaled = c.lawful_logic_writes_what_is_so.ensures plan limits moments new can run few;
       run = c.lawful_logic_is_one_lossy_switch.ensures.run plan limits moments new can run few;

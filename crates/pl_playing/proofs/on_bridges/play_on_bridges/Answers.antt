@@ -1,4 +1,4 @@
-use Rattle.std.proofs.Common.{None}
+use Rattle.std.proofs.Common.{◌≤◌, None, subst, sym}
 use Rattle.std.proofs.lemmas.Result.{IfOk-weaker}
 use Rattle.pl_bridge_rule.specs.BridgeRule.{Bridges}
 use Rattle.pl_inputs.specs.declared.words.Network.TheVariants.{Bridges as on_tree}
@@ -7,9 +7,10 @@ use Rattle.pl_world.proofs.Exports.{run_looser}
 use Rattle.pl_law_bridge.specs.TreeWorld.{tree_world}
 use Rattle.pl_law_theorem.proofs.Exports.{can_begin}
 use Rattle.pl_playing.specs.Networks.{on_bridges}
-use Rattle.pl_playing.specs.Outcomes.{Play, records_of, run_limits}
+use Rattle.pl_playing.specs.Outcomes.{records_of, run_limits}
 use Rattle.pl_playing.specs.Plays.{IsPlayedOver, IsPlayedTo, played_over}
 use Rattle.pl_playing.proofs.Failing.{failures_allowed}
+use Rattle.pl_playing.proofs.GoingOut.{goes_out_alike}
 use Rattle.pl_playing.proofs.Playing.{AreLaws, files_many, played_to}
 use Rattle.pl_playing.proofs.on_bridges.play_on_bridges.Goals as goal
 
@@ -38,6 +39,12 @@ returns-clause-ok g c =
             exact = λ before moments more old new id h to frame way none run sure over rest.
                 c.a_frame_goes_the_way_that_is_learnt.ensures i.plan run_limits before moments more old new scene.world id h to frame way begins none
                 (by_bridges (tree_world i.plan run_limits) before old run) sure over (by_bridges new more scene.world rest);
+            goes_out = λ moments run r there none.
+                let first = tree_world i.plan run_limits in
+                let out = goes_out_alike g.S.SwitchLogic.rule Bridges g.M.ManagerLogic.rule g.H.HostLogic.rule g.met.S.LearningBridge.bridges first moments scene.world run in
+                subst (λ n. n ≤ 1) (sym (out.alike r there))
+                (c.one_copy_goes_out_of_each_port.ensures.gone first moments scene.world r there none out.under
+                (c.the_first_world_keeps_to_the_tree.ensures i.plan run_limits begins));
           };
     } in
     IfOk-weaker c.play_script.result (λ p. IsPlayedOver play.leads i (played_over p.0 p.1.items)) (λ p. IsPlayedTo play i (played_over p.0 p.1.items))

@@ -6,7 +6,7 @@ use Rattle.pl_world.specs.Booting.{booted}
 use Rattle.pl_law_ledger.proofs.Exports.{numbers_last}
 use Rattle.pl_law_theorem.proofs.Exports.{can_begin}
 use Rattle.pl_playing.specs.Networks.{on_fabric}
-use Rattle.pl_playing.specs.Outcomes.{Play, records_of, run_limits}
+use Rattle.pl_playing.specs.Outcomes.{records_of, run_limits}
 use Rattle.pl_playing.specs.Plays.{IsPlayedOver, IsPlayedTo, played_over}
 use Rattle.pl_playing.proofs.Playing.{AreLaws, files_many, played_to}
 use Rattle.pl_playing.proofs.on_fabric.play_on_fabric.Goals as goal

@@ -1,4 +1,4 @@
-use Rattle.std.proofs.Common.{◌≡◌, ◌∙◌, List, ap, arith, subst, sym}
+use Rattle.std.proofs.Common.{◌≡◌, ◌∙◌, ap, arith, subst, sym}
 use Rattle.pl_shelf.specs.Held.{ShelfMoment, standard_output}
 use Rattle.pl_output.specs.Room.{HaveRoom}
 use Rattle.pl_output.specs.Saved.{AreSaved, BreaksOff, Saving}

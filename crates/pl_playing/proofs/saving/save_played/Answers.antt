@@ -1,4 +1,4 @@
-use Rattle.std.proofs.Common.{◌≡◌, ◌∙◌, All, List, ap, subst, sym, string_bytes}
+use Rattle.std.proofs.Common.{◌≡◌, ◌∙◌, All, ap, subst, sym, string_bytes}
 use Rattle.pl_journal.specs.Ranges.{Fits}
 use Rattle.pl_output.specs.Receipts.{saved_texts}
 use Rattle.pl_output.specs.Saved.{AreSaved, BreaksOff}

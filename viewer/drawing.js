@@ -24,7 +24,7 @@ globalThis.Drawing = (() => {
     // text, its number of frames; and where the hosts stand with which address.
     const lookOf = p => {
         const { state, isLoads, layout } = p;
-        p.levels = Ground.levelsTo(isLoads ? Ground.largest(state.crossings) : 0);
+        p.levels = Ground.levelsTo(isLoads ? Ground.most(p, "crossings") : 0);
         const loads = new Float64Array(isLoads ? state.crossings.length : 0);
         for (let n = 0; n < loads.length; n++) {
             const box = layout.switches[n];
@@ -45,9 +45,9 @@ globalThis.Drawing = (() => {
     };
 
     // They look the same while this does.
-    const keyOf = ({ state: { counts }, isLoads }) => {
+    const keyOf = ({ state: { counts }, isLoads, beside }) => {
         const { placed, granted, freed, moved, crossed } = Journal.KIND;
-        return [counts[placed], counts[granted], counts[freed], counts[moved], isLoads ? counts[crossed] : 0].join(" ");
+        return [counts[placed], counts[granted], counts[freed], counts[moved], isLoads ? counts[crossed] : 0, isLoads && beside ? beside.counts[crossed] : 0].join(" ");
     };
 
     const isSmall = (p, box) => box.pod === undefined && box.width * p.scale < BARE;

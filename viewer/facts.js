@@ -7,6 +7,7 @@ globalThis.Facts = (() => {
     const place = (run, number) => ({ text: Words.switchOf(run, number), subject: { switch: number } });
 
     const name = (run, subject) => {
+        if (subject.manager) return "the fabric manager";
         if (subject.frame !== undefined) return `frame ${subject.frame}`;
         if (subject.host !== undefined) return `host ${Words.hostOf(run, subject.host)}`;
         return `switch ${Words.switchOf(run, subject.switch)}`;
@@ -100,6 +101,7 @@ globalThis.Facts = (() => {
     };
 
     const of = (run, state, subject) => {
+        if (subject.manager) return Manager.facts(run, state);
         if (subject.frame !== undefined) return ofFrame(run, state, subject.frame);
         return subject.host !== undefined ? ofHost(run, state, subject.host) : ofSwitch(run, state, subject.switch);
     };

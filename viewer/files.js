@@ -45,15 +45,17 @@ globalThis.Files = (() => {
             files[element.dataset.packed] = await unpacked(element.textContent);
         }
         const title = document.querySelector("meta[name='run']");
-        return files.journal ? { files, name: title ? title.content : "packed run" } : null;
+        const { notes, ...run } = files;
+        const head = document.querySelector("meta[name='run-title']");
+        const text = notes ? new TextDecoder().decode(notes) : "";
+        return files.journal ? { files: run, name: title ? title.content : "packed run", title: head ? head.content : "", notes: text } : null;
     };
 
-    // the run that is behind the button of the welcome page
-    const example = async () => {
-        const { name, ...packedFiles } = Example;
+    // the files of a run that is behind a button of the welcome page
+    const example = async ({ topology, journal, script }) => {
         const files = {};
-        for (const [kind, text] of Object.entries(packedFiles)) files[kind] = await unpacked(text);
-        return { files, name };
+        for (const [kind, text] of Object.entries({ topology, journal, script })) files[kind] = await unpacked(text);
+        return files;
     };
 
     const bytesOf = async file => {

@@ -12,12 +12,14 @@ globalThis.Ground = (() => {
     const FAINT = 0.2; // a link that is this faint or fainter is drawn below its failure too
 
     const largest = counts => counts.reduce((most, count) => Math.max(most, count), 0);
+    // the largest load of links or switches, in the run beside it too
+    const most = ({ state, beside }, what) => Math.max(largest(state[what]), beside ? largest(beside[what]) : 0);
     // the least count of each level above 0: equally far apart by their logarithms in that of the largest
-    const bounds = most => [1, 2, 3, 4, 5].map(level => Math.ceil(Math.max(2, most) ** ((level - 1) / 4.999) - 1e-9));
+    const bounds = highest => [1, 2, 3, 4, 5].map(level => Math.ceil(Math.max(2, highest) ** ((level - 1) / 4.999) - 1e-9));
     // the level from 0 to 5 of each count up to the largest
-    const levelsTo = most => {
-        const levels = new Uint8Array(most + 1);
-        bounds(most).forEach((least, n) => levels.fill(n + 1, least));
+    const levelsTo = highest => {
+        const levels = new Uint8Array(highest + 1);
+        bounds(highest).forEach((least, n) => levels.fill(n + 1, least));
         return levels;
     };
 
@@ -112,39 +114,39 @@ globalThis.Ground = (() => {
             failures += failed;
             if (failed !== At.LEFT_OUT) lines[of[n]] = lines[of[n]] % OUT + LEVELS * failed;
         }
-        if (isLoads) addLoads(lines, of, state.carried);
+        if (isLoads) addLoads(lines, of, state.carried, most(p, "carried"));
         return { lines, isBroken: failures > 0, spots: state.spots.slice() };
     };
 
     // adds to each line the level of the largest load of its links
-    const addLoads = (lines, of, carried) => {
+    const addLoads = (lines, of, carried, highest) => {
         const loads = new Int32Array(lines.length);
         for (let n = 0; n < of.length; n++) if (carried[n] > loads[of[n]]) loads[of[n]] = carried[n];
-        const levels = levelsTo(largest(carried));
+        const levels = levelsTo(highest);
         for (let n = 0; n < loads.length; n++) lines[n] += levels[loads[n]];
     };
 
     // It looks the same while this does.
-    const keyOf = ({ state: { counts }, isLoads }) => {
+    const keyOf = ({ state: { counts }, isLoads, beside }) => {
         const { linkdown, linkup, moved, crossed } = Journal.KIND;
-        return [counts[linkdown], counts[linkup], counts[moved], isLoads ? counts[crossed] : 0].join(" ");
+        return [counts[linkdown], counts[linkup], counts[moved], isLoads ? counts[crossed] : 0, isLoads && beside ? beside.counts[crossed] : 0].join(" ");
     };
 
     // the places where a line shows, with that of a cross and a number in its middle
-    const placesOf = ([x, y, toX, toY]) => [...Pen.piecesOf([x, y, toX, toY]), { x: (x + toX) / 2 - 30, y: (y + toY) / 2 - 10, width: 60, height: 20 }];
+    const placesOf = ([x, y, toX, toY]) => [...Pen.piecesOf([x, y, toX, toY]), { x: (x + toX) / 2 - 10, y: (y + toY) / 2 - 10, width: 100, height: 20 }];
 
-    // the places on the canvas where two looks differ; all of it where these are more than `most`
-    const changes = (p, before, now, most) => {
+    // the places on the canvas where two looks differ; all of it where these are more than `many`
+    const changes = (p, before, now, many) => {
         const { count, number, ends } = Lines.shown(p);
         const places = [];
-        for (let n = 0; n < count && places.length <= most; n++) {
+        for (let n = 0; n < count && places.length <= many; n++) {
             if (before.lines[number[n]] !== now.lines[number[n]]) places.push(...placesOf(ends.subarray(4 * n, 4 * n + 4)));
         }
         now.spots.forEach((spot, host) => {
-            if (spot === before.spots[host] || places.length > most) return;
+            if (spot === before.spots[host] || places.length > many) return;
             for (const line of [hostLink(p, spot), hostLink(p, before.spots[host])]) if (line) places.push(...placesOf(line));
         });
-        return places.length > most ? ALL : places;
+        return places.length > many ? ALL : places;
     };
 
     // those that are none of the tree, where they are not too many to be told apart
@@ -167,10 +169,11 @@ globalThis.Ground = (() => {
             const failed = Math.floor(look.lines[number[n]] % OUT / LEVELS);
             if (failed === 0 || !Lines.isCrossing(sight, ends, 4 * n)) continue;
             const line = ends.subarray(4 * n, 4 * n + 4);
-            pen.lines([line], colour.failed, 1.6, [5, 4]);
+            const size = p.lines.sizes[number[n]];
             const [middleX, middleY] = [(line[0] + line[2]) / 2, (line[1] + line[3]) / 2];
+            if (failed === size) pen.lines([line], colour.failed, 1.6, [5, 4]); // of many links some of which are live the line stays
             pen.cross(middleX, middleY, 4, colour.failed);
-            if (p.lines.isOne[number[n]] === 0 && failed > 1) pen.write([`${failed}`], middleX + 10, middleY, 30, 10, colour.failed, true);
+            if (size > 1) pen.write([`${failed} of ${size}`], middleX + 8 + 3.2 * `${failed} of ${size}`.length, middleY, 70, 10, colour.failed, true);
         }
     };
 
@@ -242,5 +245,5 @@ globalThis.Ground = (() => {
         },
     };
 
-    return { bed, draw, partsOf, coarse, lookOf, keyOf, changes, levelsTo, largest, bounds };
+    return { bed, draw, partsOf, coarse, lookOf, keyOf, changes, levelsTo, largest, most, bounds };
 })();

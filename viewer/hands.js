@@ -54,29 +54,29 @@
         $("loads").setAttribute("aria-pressed", String(isLoads));
         $("scale").hidden = !isLoads;
         if (!isLoads) return;
-        const most = Ground.largest(page.state.carried);
+        const most = Ground.most(picture, "carried");
         if (most === scaled) return;
         scaled = most;
         const bounds = Ground.bounds(most);
-        $("scale").replaceChildren("over a link:", ...bounds.flatMap((least, n) => {
+        $("scale").replaceChildren(picture.beside ? "frames over a link, in both runs:" : "frames over a link:", ...bounds.flatMap((least, n) => {
             const top = n < 4 ? bounds[n + 1] - 1 : most;
             if (top < least) return [];
             const colour = document.createElement("i");
             colour.style.background = `var(--load${n + 1})`;
-            return [colour, top === least ? `${least}` : `${least}–${top}`];
+            return [colour, top === least ? Words.count(least) : `${Words.count(least)}–${Words.count(top)}`];
         }));
     };
     const loads = () => {
         picture.isLoads = !picture.isLoads;
         Page.draw(false);
     };
-    page.followers.push(drawScale, drawPods);
+    page.followers.push(drawScale, drawPods); // behind the second run, whose loads the scale has too
 
-    const toldMoment = () => [$("where").textContent, $("said").textContent];
+    const toldMoment = () => [`${page.name ? `${page.name}, ` : ""}${$("where").textContent}`, $("said").textContent];
     const fileName = () => `portland-entry-${page.state.entry}`;
     const keep = {
         link: async () => {
-            const link = `${window.location.href.replace(/#.*/, "")}${Moment.text(page.run, page.state.entry, page.subject)}`;
+            const link = `${window.location.href.replace(/#.*/, "")}${Moment.text(page.run, page.state.entry, page.subject, page.sift)}`;
             try {
                 await navigator.clipboard.writeText(link);
                 $("kept").textContent = "copied";
@@ -113,6 +113,18 @@
         "tab-fabric": () => Page.choose("fabric"),
         help: () => $("manual").showModal(),
     };
+
+    // Arrow keys on a tab go to the next one that is there.
+    document.querySelector(".tabs").addEventListener("keydown", event => {
+        const step = { ArrowLeft: -1, ArrowRight: 1 }[event.key];
+        if (!step || !event.target.matches("[role='tab']") || event.shiftKey) return;
+        const tabs = [...document.querySelectorAll(".tabs [role='tab']")].filter(tab => !tab.hidden);
+        const next = tabs[(tabs.indexOf(event.target) + step + tabs.length) % tabs.length];
+        event.preventDefault();
+        event.stopPropagation();
+        if (page.run) ACTS[next.id]();
+        next.focus();
+    });
     for (const [id, act] of Object.entries(ACTS)) {
         $(id).addEventListener("click", () => {
             if (page.run || id === "help") act();
@@ -147,6 +159,7 @@
         if (event.ctrlKey || event.altKey || event.metaKey || $("manual").open) return true;
         if (target.matches("select")) return true;
         if (target.matches("input[type='range']")) return key === "Home" || key === "End" || key.startsWith("Arrow");
+        if (target.matches("input[type='checkbox']")) return key === " ";
         if (target.matches("input")) return key !== "Escape";
         return target.matches("button:focus-visible") && key === " ";
     };
@@ -192,11 +205,16 @@
     });
     $("find").addEventListener("input", () => $("find").setCustomValidity(""));
 
+    const SIFTS = { seek: ["input", "text"], kind: ["change", "kind"], who: ["input", "who"] };
+    for (const [id, [event, part]] of Object.entries(SIFTS)) $(id).addEventListener(event, () => Page.resift({ [part]: $(id).value }));
+    $("fold").addEventListener("change", () => Page.resift({ folds: $("fold").checked }));
+
     $("knowledge").addEventListener("change", Page.drawKnown);
     $("filter").addEventListener("input", Page.drawKnown);
 
     // what is at a place of the picture, in words
     const nameOf = found => {
+        if (found.manager) return "the fabric manager";
         if (found.pod !== undefined) return `pod ${found.pod}: ${picture.open.has(found.pod) ? "fold" : "open"} it`;
         if (found.host !== undefined) return `${Facts.name(page.run, found)}, ${page.run.fabric.hosts[found.host].ip}`;
         if (picture.isOfBridge) return Facts.name(page.run, found);
@@ -240,9 +258,14 @@
             Page.refuse(error);
         }
     };
-    $("example").addEventListener("click", () => {
-        const { files, name } = { files: Files.example().then(found => found.files), name: Example.name };
-        open(files, name);
+    $("example").addEventListener("click", () => open(Files.example(Example), Example.name));
+    $("example-log").addEventListener("click", () => open(Files.example(Example.log), Example.log.name));
+
+    // What is printed of a story: as many of its entries as have a page's room.
+    const PRINTED = 200;
+    window.addEventListener("beforeprint", () => {
+        const entries = page.run && page.list.path ? page.list.path.slice(0, PRINTED) : [];
+        $("printed").replaceChildren(...entries.map(n => Object.assign(document.createElement("li"), { value: n + 1, textContent: Words.sentence(page.run, n, page.script) })));
     });
     $("beside").addEventListener("change", async () => {
         $("kept").textContent = "";
@@ -294,6 +317,10 @@
     picture.themed();
     Files.packed().then(async found => {
         if (!found) return;
+        const [heading, ...paragraphs] = [["h2", found.title], ...found.notes.split(/\n\s*\n/).map(text => ["p", text.trim()])];
+        const parts = [heading, ...paragraphs].filter(([, text]) => text !== "");
+        $("notes").replaceChildren(...parts.map(([name, textContent]) => Object.assign(document.createElement(name), { textContent })));
+        $("notes").hidden = parts.length === 0;
         await Page.open(found.files, found.name);
         if (found.files.second) Second.open({ journal: found.files.second });
     }).catch(Page.refuse);

@@ -18,6 +18,8 @@ globalThis.Journal = (() => {
     const CAUSES = ["NotPlaced", "NoNextHop", "NoAddress", "HostGone", "LinkDown", "Lost", "Spent", "BadArp", "NoMember"];
     const SKIPS = ["CutRecord", "Short", "Long", "ForeignSource", "ControlType", "RecordedArp", "NoOwner", "HoldFull"];
 
+    const HEARD = { nothing: -1, frame: 0, message: 1 }; // in an event
+
     const [BLANK, NEWLINE, DASH, AT] = [32, 10, 45, 64];
     const LARGEST = 2 ** 31 - 1;
     const DECODER = new TextDecoder();
@@ -86,12 +88,15 @@ globalThis.Journal = (() => {
             return isKnown ? kind : KIND.other;
         }
 
-        // goes over the lines below an event
+        // Goes over the lines below an event. Answers what is heard in it: a frame, something else, or nothing.
         below() {
+            const heard = this.text(this.at, this.at + 13);
             while (this.bytes[this.at] === BLANK) {
                 this.at = this.endOfLine(this.at) + 1;
                 this.line++;
             }
+            if (!heard.startsWith("  heard ")) return HEARD.nothing;
+            return heard === "  heard frame" ? HEARD.frame : HEARD.message;
         }
 
         // whether the next word is a label of a switch, and not the name of a host
@@ -213,7 +218,7 @@ globalThis.Journal = (() => {
             a: column(), b: column(), c: column(), // the entry's parts, by its kind
             before: column(), // the entry of the same frame before this one, -1 where there is none
             at: column(), // the switch that the frame crossed last or that made it, -1 where there is none
-            spot: column(), // of `sent` and `arrived` the port of an edge switch where the host stood then
+            spot: column(), // of `sent` and `arrived` the port of an edge switch where the host stood then, of an event what is heard in it
             // of each frame by its number: its first and last entry, the frame that it is a copy of, the first one of these
             begin: [-1], end: [-1], parent: [0], root: [0],
             // Each grant of an address: { number, host, edge, port, granted, freed, registrations: [{ entry, number }], earlier },
@@ -221,6 +226,7 @@ globalThis.Journal = (() => {
             addresses: [],
             byAddress: new Map(), // the last grant of each address
             restarts: [], // the entries `restarted N`
+            isLog: false, // whether it has events
             scriptLines: [], // the entries `line N`
             spots: Int32Array.from(fabric.hosts, host => host.edge * fabric.k + host.port), // where hosts stand meanwhile
         };
@@ -435,7 +441,10 @@ globalThis.Journal = (() => {
             run.start[n] = lines.at;
             entry(lines, run, n, last);
             lines.end();
-            if (run.kind[n] === KIND.event) lines.below();
+            if (run.kind[n] === KIND.event) {
+                run.isLog = true;
+                run.spot[n] = lines.below();
+            }
         }
         run.start[n] = lines.at;
         run.count = n;
@@ -466,6 +475,13 @@ globalThis.Journal = (() => {
 
     // the entry with which a frame began, for a copy that of the frame that it comes from
     const beginning = (run, id) => run.begin[run.root[id]];
+
+    // the last entry before entry n, of a frame, by which that one crossed a switch; -1 where it crossed none
+    const crossedBefore = (run, n) => {
+        let at = run.before[n];
+        while (at >= 0 && run.kind[at] !== KIND.crossed) at = run.before[at];
+        return at;
+    };
 
     // how many in a list have a number below this one; they stand by rising numbers
     const countBelow = (list, number, numberOf) => {
@@ -512,7 +528,7 @@ globalThis.Journal = (() => {
     const isLeftOut = (run, n) => isOfBridge(run) && (run.scriptLines.length === 0 || n < run.scriptLines[0]);
 
     return {
-        WORDS, KIND, EVENTS, EVENT, CAUSES, SKIPS, read, text, frame, hasFrame, frameOf, beginning, ofLine, unpackPlace,
+        WORDS, KIND, EVENTS, EVENT, HEARD, CAUSES, SKIPS, read, text, frame, hasFrame, frameOf, beginning, crossedBefore, ofLine, unpackPlace,
         grantAt, isFreed, restartAt, registrationAt, isOfBridge, isLeftOut,
     };
 })();

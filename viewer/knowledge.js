@@ -16,6 +16,13 @@ globalThis.Knowledge = (() => {
         return entries;
     };
 
+    // the entry with which a switch became placed, -1 where none did; of each run they are looked for once
+    const byRun = new WeakMap();
+    const placedBy = (run, number) => {
+        if (!byRun.has(run)) byRun.set(run, new Map(placings(run).map(entry => [run.a[entry], entry])));
+        return byRun.get(run).has(number) ? byRun.get(run).get(number) : -1;
+    };
+
     const of = run => ({ run, placings: placings(run), grants: run.addresses.map(({ granted }) => granted), texts: [] });
 
     const placed = ({ run, placings: entries }, n) => {
@@ -65,5 +72,5 @@ globalThis.Knowledge = (() => {
         return `${granted.length} granted, ${known} registered, ${free} freed`;
     };
 
-    return { of, row, rows, summary };
+    return { of, row, rows, summary, placedBy };
 })();

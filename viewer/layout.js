@@ -15,14 +15,16 @@ globalThis.Layout = (() => {
     const READABLE = 20; // points on the screen: a narrower column cannot be read
     const BETWEEN = 4; // between a folded pod's box and the next one, besides the gap between pods
     const HEAD = 24; // above the first row
+    const MANAGER = { width: 190, height: 34, room: 52 }; // the box of the fabric manager above it, where a log is open
     const FOOT = 46; // below the hosts: the pod's name
 
     const widthOf = (k, { column, gap }) => k * (k / 2 * column + gap) + gap;
 
-    // the sizes for a canvas of this width, and whether pods fold there
-    const sizesFor = (k, room, isAnyOpen) => {
+    // the sizes for a canvas of this width, beside another run those with the largest texts, and whether pods fold there
+    const sizesFor = (k, room, isAnyOpen, isBeside) => {
         const sizes = SIZES[k] || [LARGE];
-        const size = sizes.find(one => room >= 0.6 * widthOf(k, one)) || sizes[sizes.length - 1];
+        const last = sizes[sizes.length - 1];
+        const size = (!isBeside && sizes.find(one => room >= 0.6 * widthOf(k, one))) || last;
         const folds = room * size.column / widthOf(k, size) < READABLE;
         return folds ? { ...size, folds, gap: isAnyOpen || room / k < 30 ? 4 : size.gap } : { ...size, folds };
     };
@@ -48,10 +50,10 @@ globalThis.Layout = (() => {
     // the heights of the rows, so far apart that the drawing has the shape of its canvas
     const rowsOf = (shape, width, size, core, below) => {
         const boxes = core.rows * (core.box[1] + 3) + 2 * size.box[1];
-        const least = HEAD + boxes + below + (size.folds ? 100 : 140);
+        const least = size.head + boxes + below + (size.folds ? 100 : 140);
         const height = Math.max(least, Math.min(width / shape, least + width * 0.45));
-        const between = (height - HEAD - boxes - below) / 2;
-        const aggregation = HEAD + core.rows * (core.box[1] + 3) + between + size.box[1] / 2;
+        const between = (height - size.head - boxes - below) / 2;
+        const aggregation = size.head + core.rows * (core.box[1] + 3) + between + size.box[1] / 2;
         return { height, aggregation, edge: aggregation + between + size.box[1] };
     };
 
@@ -73,11 +75,11 @@ globalThis.Layout = (() => {
             const place = n % h;
             const column = (place % core.across + 0.5) / core.across;
             const x = layout.gap / 2 + (Math.floor(n / h) + 0.03 + 0.94 * column) * group;
-            const y = HEAD + core.box[1] / 2 + Math.floor(place / core.across) * (core.box[1] + 3);
+            const y = layout.head + core.box[1] / 2 + Math.floor(place / core.across) * (core.box[1] + 3);
             layout.switches[s.number] = { x, y, width: core.box[0], height: core.box[1] };
         }
         layout.groups = Array.from({ length: h }, (_, n) => (
-            { x: layout.gap / 2 + (n + 0.5) * group, y: HEAD + core.rows * (core.box[1] + 3) - 3, width: group * 0.94 }));
+            { x: layout.gap / 2 + (n + 0.5) * group, y: layout.head + core.rows * (core.box[1] + 3) - 3, width: group * 0.94 }));
     };
 
     const placeOpen = (fabric, layout, size, pod, rows) => {
@@ -116,19 +118,21 @@ globalThis.Layout = (() => {
         });
     };
 
+    const managerBox = width => ({ x: width / 2, y: 8 + MANAGER.height / 2, width: Math.min(MANAGER.width, width * 0.8), height: MANAGER.height });
+
     // The drawing of a fabric for a canvas of this width and height: the rows stand apart so that it fills it. `open` are the pods
-    // that are opened where pods fold.
-    const of = (fabric, canvas, open = new Set()) => {
+    // that are opened where pods fold; `hasManager` where the fabric manager is drawn, `isBeside` where another run is beside it.
+    const of = (fabric, canvas, open = new Set(), { hasManager = false, isBeside = false } = {}) => {
         const { k } = fabric;
         const h = k / 2;
-        const size = sizesFor(k, canvas.width, open.size > 0);
+        const size = { ...sizesFor(k, canvas.width, open.size > 0, isBeside), head: HEAD + (hasManager ? MANAGER.room : 0) };
         const isOpen = pod => !size.folds || open.has(pod);
         const isAnyOpen = !size.folds || open.size > 0;
         const { columns, width } = columnsOf(k, size, isOpen, foldedWidth(k, size, canvas.width, isAnyOpen));
         const core = coreOf(h, width, size);
         const below = FOOT + (isAnyOpen ? Math.ceil(h / size.across) * (size.cell[1] + 3) : size.box[1] + 12);
         const rows = rowsOf(Math.max(0.5, canvas.width / Math.max(1, canvas.height)), width, size, core, below);
-        const layout = { width, height: rows.height, gap: size.gap, box: size.box, cell: size.cell, across: size.across, folds: size.folds,
+        const layout = { width, height: rows.height, head: size.head, manager: hasManager ? managerBox(width) : null, gap: size.gap, box: size.box, cell: size.cell, across: size.across, folds: size.folds,
             apart: size.gap + BETWEEN, switches: [], pods: [], folded: [], cells: new Map() };
         const top = rows.aggregation - size.box[1] / 2 - 8;
         layout.pods = columns.map((column, pod) => ({ x: column.x - size.gap * 0.3, y: top, width: column.width + size.gap * 0.6,
@@ -146,6 +150,7 @@ globalThis.Layout = (() => {
 
     // what is drawn at a place: a switch, a host where it stands now, a pod that folds, or nothing
     const find = (fabric, layout, state, x, y) => {
+        if (layout.manager && isIn(layout.manager, x, y)) return { manager: true };
         const pod = layout.folds ? podAt(layout, x, y) : -1;
         if (pod >= 0) return { pod };
         const number = layout.switches.findIndex(box => isIn(box, x, y));
@@ -159,6 +164,7 @@ globalThis.Layout = (() => {
 
     // the pod of a place that is in one, else -1
     const podOf = (fabric, place, spots) => {
+        if (place.manager) return -1;
         const spot = place.spot === undefined && place.host !== undefined ? spots[place.host] : place.spot;
         const number = place.switch === undefined ? Math.floor(spot / fabric.k) : place.switch;
         const { pod } = fabric.switches[number];

@@ -10,13 +10,14 @@ globalThis.Lines = (() => {
     const faded = (p, count) => Math.max(0.1, Math.min(1, Math.min(MANY, p.width / 6) / count));
 
     // The lines of a layout: `of` has the line of each link, `ends` the four ends of each line in units of the drawing, `isOne` whether
-    // it is one link, `isFolded` whether none is, `hosts` those to hosts, and `hostsTop` what none of these is above.
+    // it is one link, `sizes` how many links it is, `isFolded` whether none is, `hosts` those to hosts, and `hostsTop` what none of these is above.
     const ofLayout = (fabric, layout) => {
         const { switches, pods, groups } = layout;
         const h = fabric.k / 2;
-        const [of, ends, isOne, bundles] = [new Int32Array(fabric.links.length), [], [], new Map()];
+        const [of, ends, isOne, sizes, bundles] = [new Int32Array(fabric.links.length), [], [], [], new Map()];
         const add = (a, b, one) => {
             ends.push(a.x, a.y - a.height / 2, b.x, b.y + b.height / 2);
+            sizes.push(0);
             return isOne.push(one) - 1;
         };
         fabric.links.forEach((link, n) => {
@@ -24,16 +25,18 @@ globalThis.Lines = (() => {
             const [a, b] = [switches[link.a], switches[link.b]];
             if (pods[pod].isOpen) {
                 of[n] = add(a, b, 1);
+                sizes[of[n]] = 1;
                 return;
             }
             const isInPod = b.pod !== undefined;
             const key = isInPod ? -1 - pod : pod * h + (link.a % h);
             if (!bundles.has(key)) bundles.set(key, add(a, isInPod ? b : { x: groups[link.a % h].x, y: groups[link.a % h].y, height: 0 }, 0));
             of[n] = bundles.get(key);
+            sizes[of[n]]++;
         });
         const isFolded = isOne.every(one => one === 0);
         const hostsTop = Math.min(...switches.slice(0, fabric.k * h).map(edge => edge.y));
-        return { of, ends: Float64Array.from(ends), isOne: Uint8Array.from(isOne), isFolded, hosts: hostsOf(fabric, layout), hostsTop, view: "", shown: null };
+        return { of, ends: Float64Array.from(ends), isOne: Uint8Array.from(isOne), sizes: Int32Array.from(sizes), isFolded, hosts: hostsOf(fabric, layout), hostsTop, view: "", shown: null };
     };
 
     // the line from each port for hosts in an open pod to its edge switch: where it is across, and its two ends down

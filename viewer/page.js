@@ -7,6 +7,7 @@ globalThis.Page = (() => {
     const page = {
         files: {}, run: null, states: null, script: null, state: null,
         subject: null, story: null, // whose story is shown, and its entries
+        sift: Sift.NONE, list: null, // what the list is to show, and its rows
         known: null, // what the Fabric list shows
         followers: [], // called with each new state: what goes with this page
         playing: 0, owed: 0, way: 1, // when the last picture was made while playing; entries that are due; 1 is on, -1 back
@@ -93,7 +94,7 @@ globalThis.Page = (() => {
     // the rules behind the entry of now, each as what the table of rules says and the files that it stands in
     const drawRule = n => {
         const rules = n < 0 ? [] : Rules.of(page.run, n);
-        Texts.put($("look"), n < 0 ? "" : Rules.look(page.run, n));
+        Texts.put($("look"), n < 0 ? "" : Rules.look(page.run, n, page.state, page.script));
         putParts($("rule"), rules.flatMap(({ says, files }, at) => {
             const parts = says.split("`").map((text, i) => (i % 2 === 1 ? { code: text } : text));
             const names = files.flatMap((file, i) => [i === 0 ? " in " : ", ", { code: file }]);
@@ -103,20 +104,22 @@ globalThis.Page = (() => {
 
     const countsText = () => {
         const { counts, causes, flying } = page.state;
-        const of = word => `${word} ${counts[Journal.KIND[word]]}`;
-        const dropped = Journal.CAUSES.flatMap((cause, n) => (causes[n] > 0 ? [`${cause} ${causes[n]}`] : []));
+        const of = word => `${word} ${Words.count(counts[Journal.KIND[word]])}`;
+        const dropped = Journal.CAUSES.flatMap((cause, n) => (causes[n] > 0 ? [`${cause} ${Words.count(causes[n])}`] : []));
         const why = dropped.length > 0 ? ` (${dropped.join(", ")})` : "";
-        return `${["sent", "made", "copied", "arrived", "taken", "dropped"].map(of).join(" ")}${why} flying ${flying.size}`;
+        return `${["sent", "made", "copied", "arrived", "taken", "dropped"].map(of).join(", ")}${why}, in flight ${Words.count(flying.size)}`;
     };
 
     const drawNow = () => {
         const { run, state, script } = page;
         const n = state.entry - 1;
-        const line = state.line < 0 ? "" : `, line ${run.a[state.line]} of the script`;
-        Texts.put($("where"), `entry ${state.entry} of ${run.count}${line}`);
+        const line = state.line < 0 ? "" : `, line ${Words.count(run.a[state.line])} of the script`;
+        Texts.put($("where"), `entry ${Words.count(state.entry)} of ${Words.count(run.count)}${line}`);
+        Texts.put($("comment"), script && n >= 0 && run.kind[n] === Journal.KIND.line ? Script.comment(script, run.a[n]) : "");
         Texts.put($("said"), n < 0 ? BEGINNING : Words.sentence(run, n, script));
         $("said").setAttribute("aria-live", page.playing ? "off" : "polite");
-        Texts.put($("raw"), n < 0 ? "" : Journal.text(run, n, 400));
+        Texts.put($("raw"), n < 0 ? "" : Journal.text(run, n, run.kind[n] === Journal.KIND.event ? Infinity : 400));
+        $("raw").classList.toggle("event", n >= 0 && run.kind[n] === Journal.KIND.event);
         drawRule(n);
         chart.set(state);
         Texts.put($("counts"), countsText());
@@ -129,16 +132,34 @@ globalThis.Page = (() => {
         drawFacts();
     };
 
-    const entryOfRow = n => (page.story ? page.story[n] : n);
-    // The row of the entry of now; where a story does not have it, the last of its rows that has happened.
-    const markedRow = () => (page.story ? Stories.happened(page.story, page.state.entry) : page.state.entry) - 1;
-    const isNow = row => row >= 0 && entryOfRow(row) === page.state.entry - 1;
+    const entryOfRow = n => (page.list.rows ? page.list.rows[n] : n);
+    // The row of the entry of now; where the list does not have it, the last of its rows that has happened.
+    const markedRow = () => (page.list.rows ? Stories.happened(page.list.rows, page.state.entry) : page.state.entry) - 1;
+    const isNow = row => row >= 0 && entryOfRow(row) === Sift.rowOf(page.list, page.state.entry - 1);
+
+    // the list shows other entries
+    const sift = () => {
+        page.list = Sift.of(page.run, page.story, page.sift, page.script);
+        const { text, kind, who, folds } = page.sift;
+        for (const [id, value] of [["seek", text], ["kind", kind], ["who", who]]) if ($(id).value !== value) $(id).value = value;
+        $("fold").checked = folds;
+        const { path, isSifted } = page.list;
+        Texts.put($("sifted"), isSifted ? Words.plural(path.length, "entry", "entries") : "");
+    };
+    const resift = wanted => {
+        if (!page.run) return;
+        page.sift = { ...page.sift, ...wanted };
+        sift();
+        drawLists();
+        keepMoment();
+    };
 
     // a row's text as it stands in its file, and below it what that means
     const fillTexts = (element, text, meaning) => {
         if (!element.firstChild) element.append(document.createElement("code"), document.createElement("span"));
         Texts.put(element.firstChild, text);
         Texts.put(element.lastChild, meaning);
+        element.setAttribute("aria-label", meaning || text); // which is read aloud, and not the digits of a frame
         if (element.title !== "") element.title = meaning;
     };
 
@@ -151,6 +172,10 @@ globalThis.Page = (() => {
 
     const fillEntry = (element, n) => {
         const entry = entryOfRow(n);
+        if (page.list.folded.has(entry)) {
+            fillTexts(element, ...Sift.foldedText(page.run, entry, page.list.folded.get(entry)));
+            return "line";
+        }
         fillTexts(element, `${entry + 1}  ${Journal.text(page.run, entry, 90)}`, Words.sentence(page.run, entry, page.script));
         return page.run.kind[entry] === Journal.KIND.line ? "line" : "";
     };
@@ -214,17 +239,17 @@ globalThis.Page = (() => {
 
     const drawLists = () => {
         const marked = markedRow();
-        entries.set(page.story ? page.story.length : page.run.count, marked, isNow(marked), page.story || page.run);
+        entries.set(page.list.rows ? page.list.rows.length : page.run.count, marked, isNow(marked), page.list);
         const line = page.state.line < 0 ? -1 : page.run.a[page.state.line] - 1;
         if (page.script && !$("script").hidden) lines.set(page.script.length, line, true, page.script);
         Texts.put($("telling"), page.subject ? storyName() : "");
-        $("all").hidden = !page.subject;
+        $("all").hidden = !page.subject && !page.list.isSifted;
         drawKnown();
     };
 
     const summary = () => {
         const flying = [...page.state.flying.keys()].slice(0, 20).join(", ");
-        return `The fabric after entry ${page.state.entry}. Frames in flight: ${flying || "none"}. ${$("said").textContent}`;
+        return `${$("said").textContent} The fabric after entry ${page.state.entry}. Frames in flight: ${flying || "none"}.`;
     };
 
     // while a frame is on its way to where it is now, the picture is made again
@@ -255,7 +280,7 @@ globalThis.Page = (() => {
     const keepMoment = () => {
         clearTimeout(moment);
         moment = setTimeout(() => {
-            const text = page.run ? Moment.text(page.run, page.state.entry, page.subject) : "";
+            const text = page.run ? Moment.text(page.run, page.state.entry, page.subject, page.sift) : "";
             if (text !== window.location.hash) window.history.replaceState(null, "", text || window.location.pathname);
         }, 250);
     };
@@ -266,6 +291,8 @@ globalThis.Page = (() => {
         if (!wanted) return false;
         page.subject = wanted.subject;
         page.story = wanted.subject ? Stories.of(page.run, wanted.subject) : null;
+        page.sift = wanted.sift;
+        sift();
         go(wanted.entry < 0 ? page.story[0] + 1 : wanted.entry);
         return true;
     };
@@ -279,15 +306,17 @@ globalThis.Page = (() => {
     };
 
     const onwards = () => {
-        if (!page.story) return page.state.entry + 1;
-        const happened = Stories.happened(page.story, page.state.entry);
-        return happened < page.story.length ? page.story[happened] + 1 : page.state.entry;
+        const { path } = page.list;
+        if (!path) return page.state.entry + 1;
+        const happened = Stories.happened(path, page.state.entry);
+        return happened < path.length ? path[happened] + 1 : page.state.entry;
     };
 
     const backwards = () => {
-        if (!page.story) return page.state.entry - 1;
-        const happened = Stories.happened(page.story, page.state.entry - 1);
-        return happened > 0 ? page.story[happened - 1] + 1 : 0;
+        const { path } = page.list;
+        if (!path) return page.state.entry - 1;
+        const happened = Stories.happened(path, page.state.entry - 1);
+        return happened > 0 ? path[happened - 1] + 1 : 0;
     };
 
     // to the entry of a line of the script, or of the next one that has an entry
@@ -329,12 +358,13 @@ globalThis.Page = (() => {
         else requestAnimationFrame(tick);
     };
 
-    // the entry so many entries of the journal, or of the story that is shown, from that of now
+    // the entry so many entries of the journal, or of what the list shows, from that of now
     const afterMany = count => {
-        if (!page.story) return page.state.entry + count;
+        const { path } = page.list;
+        if (!path) return page.state.entry + count;
         const isOn = count > 0;
-        const happened = Stories.happened(page.story, isOn ? page.state.entry : page.state.entry - 1) + (isOn ? count : count + 1);
-        return happened <= 0 ? 0 : page.story[Math.min(page.story.length, happened) - 1] + 1;
+        const happened = Stories.happened(path, isOn ? page.state.entry : page.state.entry - 1) + (isOn ? count : count + 1);
+        return happened <= 0 ? 0 : path[Math.min(path.length, happened) - 1] + 1;
     };
 
     // whether there is nothing more to play this way
@@ -379,6 +409,8 @@ globalThis.Page = (() => {
         keepHeight(0);
         page.subject = subject;
         page.story = subject ? Stories.of(page.run, subject) : null;
+        if (!subject) page.sift = { ...Sift.NONE, folds: page.sift.folds };
+        sift();
         choose("journal");
         draw(false);
     };
@@ -392,7 +424,9 @@ globalThis.Page = (() => {
         for (const tab of ["journal", "script", "fabric"]) {
             $(tab).hidden = tab !== name;
             $(`tab-${tab}`).setAttribute("aria-selected", String(tab === name));
+            $(`tab-${tab}`).tabIndex = tab === name ? 0 : -1;
         }
+        $("sift").hidden = name !== "journal";
         if (page.run) drawLists();
     };
 
@@ -412,20 +446,24 @@ globalThis.Page = (() => {
     };
 
     const UNSEEN = $("unseen").textContent;
-    const LOGGED = "In a log each step of the fabric is an entry: a control frame is drawn where it is heard, and the manager's words are told.";
+    const LOGGED = "In a log each step of the fabric is an entry: what a switch or the fabric manager hears is drawn where it is heard.";
 
     const show = (opened, name) => {
         if (page.playing) stop();
-        Object.assign(page, opened, { state: At.at(opened.states, 0), subject: null, story: null, known: null });
+        Object.assign(page, opened, { name, state: At.at(opened.states, 0), subject: null, story: null, sift: Sift.NONE, known: null });
+        $("kind").replaceChildren(...[["", "of any kind"], ...Sift.kindsOf(page.run)].map(([value, text]) => new Option(text, value)));
+        sift();
         keepHeight(0);
         $("welcome").hidden = true;
         $("tools").hidden = false;
+        document.body.classList.add("open");
         picture.show(page.run);
         chart.show(page.run);
         $("find").disabled = false;
         $("slider").max = $("entry").max = page.run.count;
         $("opened").textContent = `${name ? `${name}: ` : ""}${nameOf(page.run)}`;
         $("tab-script").hidden = !page.script;
+        Texts.put($("tab-journal"), page.run.isLog ? "Log" : "Journal");
         $("unseen").textContent = Said.isLog(page.run) ? LOGGED : UNSEEN;
         $("filter").value = "";
         drawnAt(page.run.count); // so that its texts are measured before a step is waited for
@@ -446,6 +484,7 @@ globalThis.Page = (() => {
         $("opened").textContent = "no run is open";
         $("find").disabled = true;
         $("tools").hidden = true;
+        document.body.classList.remove("open");
         $("welcome").hidden = false;
     };
 
@@ -481,6 +520,6 @@ globalThis.Page = (() => {
 
     return {
         page, picture, open, refuse, go, draw, drawKnown, step, onwards, backwards, lineOn, toLine, play, tell, tellNow, toMoment,
-        choose, faster,
+        choose, faster, resift,
     };
 })();

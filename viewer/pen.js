@@ -258,9 +258,10 @@ globalThis.Pen = (() => {
         }
 
         // a text on a round or square ground, by its middle; it stays between 0 and `most`
-        label(text, x, y, { size, radius, fill, ink, edge, most }) {
+        label(text, x, y, { size, radius, fill, ink, edge, most, tight = false }) {
             const { c } = this;
-            const [width, height] = [Math.max(size + 5, this.widthOf(text, size, true) + size * 0.8), size + 5];
+            const wide = this.widthOf(text, size, true);
+            const [width, height] = tight ? [wide + 4, size + 2] : [Math.max(size + 5, wide + size * 0.8), size + 5];
             this.font(size, true);
             const left = Math.min(Math.max(1, x - width / 2), Math.max(1, most - width - 1));
             this.note(left + width / 2, y, width + 2, height + 2);
@@ -269,7 +270,7 @@ globalThis.Pen = (() => {
             c.fillStyle = fill;
             c.fill();
             c.strokeStyle = edge;
-            c.lineWidth = 1.3;
+            c.lineWidth = tight ? 0.8 : 1.3;
             c.stroke();
             c.fillStyle = ink;
             c.fillText(text, left + width / 2, y + 0.5);

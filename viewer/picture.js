@@ -3,7 +3,7 @@
 // canvas of Layers, so that a step draws what moves alone.
 globalThis.Picture = (() => {
     const NAMES = ["paper", "ink", "muted", "link", "pod", "edge", "aggregation", "core", "host", "now", "nowink", "failed",
-        "load1", "load2", "load3", "load4", "load5", "loadink"];
+        "control", "load1", "load2", "load3", "load4", "load5", "loadink"];
     const REST = 200; // milliseconds without another picture after which one is finished
     const LATEST = 100; // milliseconds that a part of the fabric may be behind
 
@@ -14,7 +14,7 @@ globalThis.Picture = (() => {
             this.pen = Pen.of(canvas.getContext("2d"));
             this.pen.noted = [];
             Object.assign(this, { width: 0, height: 0, scale: 1, x: 0, y: 0, progress: 1, place: null });
-            Object.assign(this, { isLoads: false, isOfBridge: false, open: new Set(), touched: null });
+            Object.assign(this, { isLoads: false, isOfBridge: false, isOfLog: false, beside: null, open: new Set(), touched: null }); // `beside` is the state of the run beside it
             Object.assign(this, { run: null, fabric: null, layout: null, state: null, scene: null, names: new Map(), lines: null, finishing: 0 });
             Object.assign(this, { mayWait: false, waits: false, since: 0 }); // whether the fabric may be behind, whether it waits, and since when it is
         }
@@ -26,17 +26,32 @@ globalThis.Picture = (() => {
             this.height = this.canvas.clientHeight;
         }
 
-        // reads the colours of the page's scheme
-        themed() {
+        readColours() {
             const style = getComputedStyle(document.documentElement);
             this.colour = Object.fromEntries(NAMES.map(name => [name, style.getPropertyValue(`--${name}`).trim()]));
+        }
+
+        // reads the colours of the page's scheme
+        themed() {
+            this.readColours();
             this.layers.forget();
+        }
+
+        // draws by `act` in light colours, whatever the page's scheme is
+        inLight(act) {
+            const { colour } = this;
+            document.documentElement.classList.add("light");
+            this.readColours();
+            document.documentElement.classList.remove("light");
+            act();
+            this.colour = colour;
         }
 
         show(run) {
             this.run = run;
             this.fabric = run.fabric;
             this.isOfBridge = Journal.isOfBridge(run);
+            this.isOfLog = Said.isLog(run);
             this.open = new Set();
             this.touched = null;
             this.arrange();
@@ -46,7 +61,7 @@ globalThis.Picture = (() => {
         lay() {
             this.measure();
             this.lines = null; // Lines makes them of the layout
-            this.layout = Layout.of(this.fabric, { width: this.width, height: this.height }, this.open);
+            this.layout = Layout.of(this.fabric, { width: this.width, height: this.height }, this.open, { hasManager: this.isOfLog, isBeside: this.beside !== null });
             this.layers.forget();
         }
 
@@ -114,6 +129,7 @@ globalThis.Picture = (() => {
         }
 
         nameOf(place) {
+            if (place.manager) return "fabric manager";
             return place.switch === undefined ? this.fabric.hosts[place.host].name : this.fabric.switches[place.switch].label;
         }
 
@@ -153,6 +169,7 @@ globalThis.Picture = (() => {
 
         // A host is at the port that is named with it, else where it stands now.
         boxOf(place) {
+            if (place.manager) return this.layout.manager;
             if (place.switch !== undefined) return this.layout.switches[place.switch];
             return this.layout.cells.get(place.spot === undefined ? this.state.spots[place.host] : place.spot);
         }
@@ -164,6 +181,7 @@ globalThis.Picture = (() => {
 
         // Whether a place wants a box of its own for its name: in a folded pod, or where its box is too narrow for it.
         wantsName(place) {
+            if (place.manager) return false;
             const box = this.boxOf(place);
             if (place.switch === undefined) return place.host !== undefined && (box.pod !== undefined || box.width * this.scale < 20);
             return box.pod !== undefined || box.width * this.scale < 6 * this.nameOf(place).length;

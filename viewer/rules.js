@@ -1,6 +1,6 @@
 "use strict";
-// The rule behind an entry: the definitions and files that docs/RULES.md names for its line, on the fabric or on learning bridges, and for
-// the cause of a drop also what to look at.
+// The rule behind an entry: the definitions and files that docs/RULES.md names for its line, on the fabric or on learning bridges, those behind an
+// event of a log, and for the cause of a drop also what was so there.
 globalThis.Rules = (() => {
     const { KIND, CAUSES, WORDS } = Journal;
 
@@ -11,6 +11,10 @@ globalThis.Rules = (() => {
     const rowsOf = text => text.trim().split("\n").map(cellsOf).filter(isRow).map(([what, says, files]) => (
         { names: [...what.matchAll(/"([A-Za-z]+)/g)].map(found => found[1]), what, says, files: files.split(", ").map(fileOf) }));
     const [OF_FABRIC, OF_BRIDGE] = [rowsOf(Table.fabric), rowsOf(Table.bridge)];
+
+    // A row of what a switch, the manager, a host or the world does: the rule is a sentence.
+    const OF_STEPS = rowsOf(Table.steps).map(({ what, says, files }) => ({ names: [...says.matchAll(/"(\w+)"/g)].map(found => found[1]), says: `${what}: ${says}`, files }));
+    const OF_STEP = new Map(OF_STEPS.flatMap(row => row.names.map(name => [name, row])).reverse());
 
     const rowOf = name => OF_FABRIC.find(({ names }) => names.includes(name)) || null;
     const OF_WORD = WORDS.map(rowOf);
@@ -24,34 +28,13 @@ globalThis.Rules = (() => {
     const BRIDGE_OF_WORD = WORDS.map(bridgeRowOf);
     const BRIDGE_OF_CAUSE = CAUSES.map(bridgeRowOf);
 
-    // what to look at where a frame ended so
-    const LOOK = {
-        NotPlaced: "Look at when that switch was placed: its story says it, and so does the order of placing under Fabric. "
-            + "What is sent before a `settle` line has ended is often lost so.",
-        NoNextHop: "Look at the links of that switch that are failed: the picture crosses them out. After a failure the switches know "
-            + "another way only once the manager has told them, so once some ticks have passed.",
-        NoAddress: "Look at the destination in the frame's header, and under Fabric at what was granted at that port: "
-            + "the sender has an address that was made up, or one that was freed since.",
-        HostGone: "Look at the story of the host that it was for: where it stands now, and since when. Its senders learn of a move when "
-            + "its new address is registered, or from the first frame that follows it.",
-        LinkDown: "Look at the last `linkdown` of that switch's links. A switch sends over a failed link until it has not heard "
-            + "its neighbour for three ticks.",
-        Lost: "Look at the line of the script: it took this frame.",
-        Spent: "Look under Fabric at what was granted at that port: its addresses have been used up.",
-        BadArp: "Look at the frame's header, which says what is wrong with its ARP part.",
-        NoMember: "Look at the `join` and `leave` lines of the script for that group, and at whether the reports arrived.",
-    };
-    const BACK = "No loss: the tree of a group, or of a flood, reaches the sender's own switch too, and nobody else there is to have a copy.";
-    // Behind a restart of the manager these causes may come of that.
-    const FORGOTTEN = ["NoNextHop", "NoMember"];
-    const forgottenText = entry => ` The fabric manager restarted by entry ${entry + 1}: a switch that has heard of it avoids nothing and knows no part of a tree `
-        + "until it is told anew.";
-
+    // what to look at where a frame ended so on learning bridges
     const LOOK_AT_BRIDGES = {
         NoNextHop: "No loss, unless its host moved and has not sent since: it stands on the side of the tree from which the frame came, where a flood "
             + "has reached it.",
         HostGone: "Look at the frame's destination, and at where its host stands. A flood ends so at each port where that host does not stand, which "
             + "is no loss; and a host that moved gets its frames at the old port until it sends.",
+        Lost: "Look at the line of the script: it took this frame.",
         LinkDown: "Look at the link: the picture crosses it out. A flood ends so at each link that is none of the tree, which is no loss; where a "
             + "link of the tree failed since, bridges find no other way.",
         NoMember: "No loss: bridges flood what is for a group, and a host that has not joined it takes none of it.",
@@ -71,17 +54,22 @@ globalThis.Rules = (() => {
         return part(kind === KIND.dropped ? BRIDGE_OF_CAUSE[run.b[n]] : BRIDGE_OF_WORD[kind]);
     };
 
+    // of an event of a log, the rules behind it; of a link that is repaired, and of a cause, they stand in the other table
+    const stepRow = name => OF_STEP.get(name) || OF_FABRIC.find(({ names, says }) => names.includes(name) || says.includes(`"${name}"`)) || null;
+    const ofEvent = (run, n) => [...new Set(Why.of(run, n).map(stepRow))].flatMap(part);
+
     // The rules of entry n, as parts of what is said and the files that it stands in; of a line that the script's player writes
     // there is none.
-    const of = (run, n) => (Journal.isOfBridge(run) ? ofBridge(run, n) : ofFabric(run, n));
-
-    const look = (run, n) => {
-        if (run.kind[n] !== KIND.dropped) return "";
-        const cause = CAUSES[run.b[n]];
-        if (Journal.isOfBridge(run)) return LOOK_AT_BRIDGES[cause] || LOOK[cause];
-        const restart = FORGOTTEN.includes(cause) ? Journal.restartAt(run, n) : -1;
-        return Words.isBack(run, n) ? BACK : `${LOOK[cause]}${restart < 0 ? "" : forgottenText(restart)}`;
+    const of = (run, n) => {
+        if (run.kind[n] === KIND.event) return ofEvent(run, n);
+        return Journal.isOfBridge(run) ? ofBridge(run, n) : ofFabric(run, n);
     };
 
-    return { of, look, rowOf, bridgeRowOf };
+    // What was so where a frame ended, of another entry nothing; `state` is that once entry n has happened.
+    const look = (run, n, state, script = null) => {
+        if (run.kind[n] !== KIND.dropped) return "";
+        return Journal.isOfBridge(run) ? LOOK_AT_BRIDGES[CAUSES[run.b[n]]] : Drops.said(run, n, state, script);
+    };
+
+    return { of, look, rowOf, bridgeRowOf, stepRow };
 })();

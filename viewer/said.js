@@ -1,5 +1,5 @@
 "use strict";
-// What a log of `portland watch` says of an event: the lines below it, in words, and what a switch knows by them at an entry.
+// What stands below the events of a log of `portland watch`, and what a switch knows by it at an entry.
 globalThis.Said = (() => {
     const { KIND, EVENT } = Journal;
 
@@ -11,8 +11,15 @@ globalThis.Said = (() => {
 
     const heard = (run, n) => below(run, n).find(({ verb }) => verb === "heard") || null;
 
-    // where what comes in an event comes from over a link, or null
-    const from = (run, n) => (run.c[n] === EVENT.along ? { switch: run.b[n] } : null);
+    // where what comes in an event comes from: over a link, or from or to the fabric manager; or null
+    const from = (run, n) => {
+        if (run.c[n] === EVENT.told) return { switch: run.a[n] };
+        if (run.c[n] === EVENT.says) return { manager: true };
+        return run.c[n] === EVENT.along ? { switch: run.b[n] } : null;
+    };
+
+    // where an event happens
+    const placeOf = (run, n) => (run.c[n] === EVENT.told || run.c[n] === EVENT.restart ? { manager: true } : turnOf(run, n));
 
     // what a control frame that comes over a link is called in the picture, "" where a data frame comes
     const carried = (run, n) => {
@@ -21,120 +28,20 @@ globalThis.Said = (() => {
         return said.kind === "vote" ? said.words[3] : said.kind;
     };
 
-    // the parts of a place that are known
-    const place = ([level, position, pod]) => (level === "-" ? "no place yet"
-        : [`level ${level}`, ...(position === "-" ? [] : [`position ${position}`]), ...(pod === "-" ? [] : [`pod ${pod}`])].join(", "));
+    const portText = words => (words[0] === "host" ? "a host" : `${words[0]}, ${Told.place(words.slice(1))}, which heard ${Told.nobody(words[4])} here; ${words[5]}`);
 
-    const lies = direction => (direction === "-" ? "" : `; you lie ${direction === "up" ? "above" : "below"} me`);
+    const holdText = ([edge, fixed]) => (edge === "-" ? "free" : `held for ${edge}, ${fixed === "fixed" ? "for good" : "not for good yet"}`);
 
-    const nobody = who => (who === "-" ? "nobody" : who);
-
-    const portText = words => (words[0] === "host" ? "a host" : `${words[0]}, ${place(words.slice(1))}, which heard ${nobody(words[4])} here; ${words[5]}`);
-
-    const holdText = ([edge, fixed]) => (edge === "-" ? "free" : `held for ${edge}, ${fixed === "fixed" ? "for good" : "not yet for good"}`);
-
-    const avoidText = ([neighbour, pod, position]) => `${neighbour} for pod ${pod} position ${position}`;
-
-    // each kind of line in words; "-" is what is not known
-    const TOLD = {
-        ldm: ([who, ...w]) => `${who} says: ${place(w)}${lies(w[3])}; here I heard ${nobody(w[4])}`,
-        proposal: ([who, attempt, position]) => `${who} proposes position ${position}, attempt ${attempt}`,
-        vote: ([who, attempt, position, answer, holder, fixed]) => (answer === "granted"
-            ? `${who} grants position ${position}, attempt ${attempt}`
-            : `${who} refuses position ${position}, attempt ${attempt}: it is ${holdText([holder, fixed])}`),
-        frame: ([number]) => `frame ${number}`,
-        unread: () => "a control frame that cannot be read",
-        place: w => place(w),
-        link: ([who, usable]) => `the link to ${who} is ${usable}`,
-        podwanted: () => "a pod is wanted",
-        learned: ([pmac, mac, ip]) => `${pmac} is the address of ${mac}${ip === "-" ? "" : `, ${ip}`}`,
-        aged: ([pmac, number]) => `${pmac} is used no more${number === "0" ? "" : `, and led on by number ${number}`}`,
-        trapped: ([old, now, number]) => `${old} is led on to ${now} by number ${number}`,
-        begin: ([epoch]) => `this is all that you have to know of me, for the time of number ${epoch}`,
-        end: ([epoch]) => `that was all, for the time of number ${epoch}`,
-        query: ([ip, , asker]) => `who has ${ip}? asks ${asker}`,
-        members: ([group, any]) => `${any} members of group ${group}`,
-        pod: ([pod]) => `your pod is ${pod}`,
-        answer: ([ip, pmac]) => `${ip} is at ${pmac}`,
-        flood: ([ip]) => `nobody is known to have ${ip}: ask all hosts`,
-        avoid: () => "an avoid list",
-        invalidate: ([old, now]) => `${old} is now ${now}`,
-        release: ([pmac]) => `${pmac} is free again`,
-        hello: ([epoch]) => `I begin anew, for the time of number ${epoch}, and know nothing`,
-        tree: ([group, up, many]) => (up === undefined ? `no part of the tree of group ${group}` : `the tree of group ${group}: ${nobody(up)} above, ${many} below`),
-    };
-
-    // what a switch knows now, in words
-    const KNOWN = {
-        place: w => `stands at ${place(w)}`,
-        port: ([port, ...w]) => `at port ${port} is ${portText(w)}`,
-        silent: ([port, ticks]) => (Number(ticks) < 2 ? `hears again at port ${port}` : `heard nothing at port ${port} for ${ticks} ticks`),
-        attempt: ([attempt, position]) => (position === undefined ? "has nothing to propose" : `wants position ${position}, by attempt ${attempt}`),
-        granted: ([port]) => `counts the vote by port ${port}`,
-        hold: ([position, ...w]) => `position ${position} is ${holdText(w)}`,
-        avoid: ([sign, ...w]) => `avoids ${avoidText(w)}${sign === "+" ? "" : " no more"}`,
-        tree: w => `has ${TOLD.tree(w)}`,
-        below: ([group, who]) => `has ${who} below in the tree of group ${group}`,
-    };
-
-    const lineText = ({ kind, words }) => (TOLD[kind] ? TOLD[kind](words) : [kind, ...words].join(" "));
-
-    const SEVERAL = { avoid: "avoid lists", tree: "parts of trees" };
-
-    // lines of one kind that go by several ports, or to several switches
-    const sent = lines => {
-        const [{ verb, kind, words }] = lines;
-        const to = lines.map(line => line.words[0]).join(", ");
-        if (kind === "vote") return `by port ${to} ${TOLD.vote(["it", ...words.slice(1)])}`;
-        if (verb === "sends") return `sends ${kind} by port${lines.length > 1 ? "s" : ""} ${to}`;
-        return lines.length > 1 ? `says ${SEVERAL[kind] || kind} to ${to}` : `says to ${to}: ${lineText({ kind, words: words.slice(1) })}`;
-    };
-
-    // a line below an event as a short text
-    const short = line => {
-        if (line.verb === "heard") return `hears: ${lineText(line)}`;
-        if (line.verb === "tells") return `tells the manager: ${lineText(line)}`;
-        if (line.verb === "lost") return `is lost: ${lineText(line)}`;
-        if (line.verb === "knows" && KNOWN[line.kind]) return KNOWN[line.kind](line.words);
-        return `${line.verb} ${[line.kind, ...line.words].join(" ")}`;
-    };
-
-    // the lines below an event as short texts, what is sent or said of one kind together
-    const shorts = lines => {
-        const groups = new Map();
-        for (const [n, line] of lines.entries()) {
-            const key = line.verb === "sends" || line.verb === "says" ? `${line.verb} ${line.kind}` : n;
-            groups.set(key, [...(groups.get(key) || []), line]);
-        }
-        return [...groups].map(([key, group]) => (typeof key === "string" ? sent(group) : short(group[0])));
-    };
-
-    const COMES = { [EVENT.tick]: "ticks", [EVENT.fail]: "loses a link", [EVENT.repair]: "has a link repaired", [EVENT.restart]: "restarts" };
+    const avoidText = ([neighbour, pod, position]) => `${neighbour} for pod ${pod}, position ${position}`;
 
     // the switch whose turn it is in an event, else the host; null where the fabric manager restarts
     const turnOf = (run, n) => (run.a[n] >= 0 ? { switch: run.a[n] } : run.b[n] >= 0 ? { host: run.b[n] } : null);
 
-    const subject = (run, n) => {
-        const turn = turnOf(run, n);
-        if (!turn) return "The fabric manager";
-        return turn.host === undefined ? run.fabric.switches[turn.switch].label : run.fabric.hosts[turn.host].name;
-    };
-
-    // what happens in an event: who, and at most so many of the lines below it
-    const sentence = (run, n, most = 6) => {
-        const lines = shorts(below(run, n));
-        const more = lines.length > most ? [`and ${lines.length - most} lines more`] : [];
-        const what = COMES[run.c[n]] || (lines.length === 0 ? Journal.text(run, n).split("\n")[0].split(" ").slice(2).join(" ") : "");
-        const all = [what, ...lines.slice(0, most), ...more].filter(Boolean).join("; ");
-        // What a switch told the fabric manager is an event of that switch, and the manager hears it.
-        if (run.c[n] === EVENT.told) return `The fabric manager ${all.replace("hears", `hears from ${subject(run, n)}`)}.`;
-        return `${subject(run, n)} ${all}.`;
-    };
-
     const note = (run, n) => {
-        if (run.c[n] === EVENT.tick) return "tick";
+        if (run.c[n] === EVENT.tick) return "ticks";
+        if (run.c[n] === EVENT.restart) return "restarts";
         const said = heard(run, n);
-        return said ? `${run.c[n] === EVENT.told ? "tells" : "hears"} ${said.kind}` : "";
+        return said ? `hears ${said.kind}` : "";
     };
 
     // ---- what a switch knows
@@ -159,20 +66,26 @@ globalThis.Said = (() => {
         else if (kind === "below") known.trees.get(words[0]).push(words[1]);
     };
 
-    let kept = null; // what a switch knew when it was asked for last, from which it goes on
+    // What switches knew when they were asked for last, from which they go on: of so many of them.
+    const KEPT = 4;
+    let kept = [];
 
     // what a switch knows once so many entries have happened
     const known = (run, number, entry) => {
-        const goesOn = kept && kept.run === run && kept.number === number && kept.entry <= entry;
-        if (!goesOn) kept = { run, number, entry: 0, all: nothing() };
-        for (; kept.entry < entry; kept.entry++) {
-            const n = kept.entry;
-            if (run.kind[n] === KIND.event && run.a[n] === number) for (const line of below(run, n)) learn(kept.all, line);
+        const goesOn = one => one.run === run && one.number === number && one.entry <= entry;
+        const one = kept.find(goesOn) || { run, number, entry: 0, all: nothing() };
+        kept = [one, ...kept.filter(other => other !== one && !(other.run === run && other.number === number))].slice(0, KEPT);
+        for (; one.entry < entry; one.entry++) {
+            const n = one.entry;
+            if (run.kind[n] === KIND.event && run.a[n] === number) for (const line of below(run, n)) learn(one.all, line);
         }
-        return kept.all;
+        return one.all;
     };
 
-    const isLog = run => run.kind.indexOf(KIND.event) >= 0;
+    const isLog = run => run.isLog;
+
+    // the port of a switch out of which a frame comes in an event
+    const portOf = (run, n) => Number(Journal.text(run, n).split("\n")[0].split(" ")[4]);
 
     const grantText = ports => (ports.length > 0 ? `granted by port ${ports.join(", ")}` : "not granted so far");
 
@@ -193,9 +106,9 @@ globalThis.Said = (() => {
             ...[...traps].map(([old, now]) => ["trap", `${old} leads on to ${now}`]),
             ...addresses.map(([pmac, mac]) => ["granted", `${pmac} to ${mac}`]),
             ...[...ports].map(([port, words]) => [`hears at ${port}`, heardAt(words, Number(silent.get(port) || 0))]),
-            ...[...trees].map(([group, [up, ...down]]) => ["tree", `of group ${group}: ${nobody(up)} above, ${down.length > 0 ? down.join(", ") : "nobody"} below`]),
+            ...[...trees].map(([group, [up, ...down]]) => ["tree", `of ${Told.groupText(group)}: ${Told.nobody(up)} above, ${down.length > 0 ? down.join(", ") : "nobody"} below`]),
         ];
     };
 
-    return { below, heard, from, turnOf, carried, sentence, note, known, facts, isLog };
+    return { below, heard, from, placeOf, turnOf, carried, note, known, facts, isLog, portOf };
 })();

@@ -4,7 +4,7 @@
 globalThis.Scene = (() => {
     const { KIND, CAUSES } = Journal;
 
-    const samePlace = (a, b) => a.host === b.host && a.switch === b.switch && a.spot === b.spot;
+    const samePlace = (a, b) => a.host === b.host && a.switch === b.switch && a.spot === b.spot && a.manager === b.manager;
 
     // the places of a frame up to entry n, the oldest first, no place twice in a row
     const wayOf = (run, n) => {
@@ -16,8 +16,9 @@ globalThis.Scene = (() => {
         return way;
     };
 
-    // whether a link of the wiring, or a host's port, leads from one place to the other
+    // whether a link of the wiring, a host's port, or the manager's own network leads from one place to the other
     const isJoined = ({ fabric }, a, b) => {
+        if (a.manager || b.manager) return true;
         if (a.switch !== undefined && b.switch !== undefined) return Fabric.link(fabric, a.switch, b.switch) >= 0;
         const [host, other] = a.switch === undefined ? [a, b] : [b, a];
         return other.switch === Math.floor(host.spot / fabric.k);
@@ -41,6 +42,7 @@ globalThis.Scene = (() => {
             case KIND.linkup: return "link repaired";
             case KIND.freed: return "address freed";
             case KIND.event: return Said.note(run, n);
+            case KIND.restarted: return "restarted";
             default: return "";
         }
     };
@@ -54,7 +56,8 @@ globalThis.Scene = (() => {
         if (kind === KIND.registered) return { host: run.addresses[run.a[n]].host };
         if (kind === KIND.freed) return { switch: run.addresses[run.a[n]].edge };
         if (kind === KIND.placed) return { switch: run.a[n] };
-        if (kind === KIND.event) return Said.turnOf(run, n);
+        if (kind === KIND.event) return Said.placeOf(run, n);
+        if (kind === KIND.restarted) return Said.isLog(run) ? { manager: true } : null;
         return kind === KIND.linkdown || kind === KIND.linkup ? { link: run.a[n] } : null;
     };
 
@@ -67,7 +70,7 @@ globalThis.Scene = (() => {
         const last = said || (frame > 0 && before >= 0 ? At.where(run, before) : null);
         const from = last && !samePlace(last, place) && isJoined(run, last, place) ? last : null;
         const control = said && from ? Said.carried(run, n) : "";
-        return { entry: n, frame, place, from, note: control ? "" : noteOf(run, n), control };
+        return { entry: n, frame, place, from, note: control ? "" : noteOf(run, n), control, told: Manager.toldIn(run, n) };
     };
 
     // The frames that are flying, by the place of their newest entry: a switch's number, or a port for hosts as a number below 0.

@@ -25,7 +25,7 @@ globalThis.Script = (() => {
         sweep: ([n]) => `${n} times, all that waits in the queues is delivered`,
         settle: ([n]) => `rounds until nothing is left to do, ${n} at most: each switch ticks, then queues are swept`,
         random: ([seed, n]) => `${n} steps that are drawn by the number ${seed}`,
-        restart: () => "the fabric manager forgets all that it knows, and the switches tell it anew",
+        restart: () => "the fabric manager forgets all that it knows, and the switches tell it again",
         expect: ([what, ...rest]) => (Object.hasOwn(CHECKS, what) ? `it is checked that ${CHECKS[what](rest)}` : rest.join(" ")),
     };
 
@@ -38,13 +38,23 @@ globalThis.Script = (() => {
         arrived: ([host, n]) => `${n} frames have arrived at host ${host}`,
         dropped: ([cause, n]) => `${n} frames were dropped as ${cause}`,
         address: ([host, address]) => `the address of host ${host} that was registered last is ${address}`,
-        settled: () => "the last `settle` line left the fabric settled",
+        settled: () => "the last settle line left the fabric settled",
     };
 
     const read = text => {
         const lines = text.split("\n");
         if (lines[lines.length - 1] === "") lines.pop();
         return lines.map(line => line.replace(/\r$/, ""));
+    };
+
+    const commentOf = line => (line.includes("#") ? line.replace(/^[^#]*#+ ?/, "") : "");
+
+    // the comments of a line of the script: those right above it, and its own
+    const comment = (lines, number) => {
+        const own = lines[number - 1] === undefined ? "" : commentOf(lines[number - 1]);
+        let first = number - 1;
+        while (first > 0 && /^\s*#/.test(lines[first - 1])) first--;
+        return [...lines.slice(first, number - 1).map(commentOf), own].filter(text => text !== "").join("\n");
     };
 
     const wordsOf = line => line.replace(/#.*/, "").split(/[ \t]+/).filter(word => word !== "");
@@ -57,5 +67,5 @@ globalThis.Script = (() => {
         return Object.hasOwn(said, first) && isWhole ? said[first](rest) : rest.join(" ");
     };
 
-    return { read, wordsOf, sentence };
+    return { read, wordsOf, sentence, comment };
 })();

@@ -27,7 +27,7 @@ globalThis.Second = (() => {
 
     // a host or a switch of the first run in the second one, or null
     const subjectOf = subject => {
-        if (!subject || subject.frame !== undefined) return null;
+        if (!subject || subject.frame !== undefined || (subject.manager && !Said.isLog(second.run))) return null;
         const found = Stories.find(second.run, Moment.nameOf(page.run, subject));
         return found && found.frame === undefined ? found : null;
     };
@@ -42,9 +42,11 @@ globalThis.Second = (() => {
         second.state = At.at(states, Step.of(page.run, run, page.state.entry, page.state.line), second.state);
         const { entry, line } = second.state;
         picture.isLoads = Page.picture.isLoads;
+        [picture.beside, Page.picture.beside] = [page.state, second.state]; // so that both have one scale of loads
+        $("first-where").textContent = `${Journal.isOfBridge(page.run) ? "learning bridge" : "first run"}${page.name ? ` (${page.name})` : ""}: ${$("where").textContent}`;
         picture.set(second.state, Scene.of(run, second.state, subjectOf(page.subject)));
         const inLine = line < 0 ? "" : `, line ${run.a[line]} of the script`;
-        $("second-where").textContent = `${Journal.isOfBridge(run) ? "learning bridge" : "second run"}: entry ${entry} of ${run.count}${inLine}`;
+        $("second-where").textContent = `${Journal.isOfBridge(run) ? "learning bridge" : "second run"}: entry ${Words.count(entry)} of ${Words.count(run.count)}${inLine}`;
         $("second-said").textContent = entry === 0 ? "The beginning." : Words.sentence(run, entry - 1, script);
         $("other").setAttribute("aria-label", `The second run after entry ${entry}. ${$("second-said").textContent}`);
         $("other").classList.toggle("near", !picture.isWhole);
@@ -54,7 +56,8 @@ globalThis.Second = (() => {
 
     const close = () => {
         Object.assign(second, { first: null, run: null, states: null, state: null, script: null });
-        $("second").hidden = $("alone").hidden = true;
+        Page.picture.beside = null;
+        $("second").hidden = $("alone").hidden = $("first-where").hidden = true;
         $("besides").hidden = false;
         document.body.classList.remove("two");
     };
@@ -63,9 +66,10 @@ globalThis.Second = (() => {
     const open = files => {
         if (!files.journal) throw new Error("No journal is among these files: the second run is one of the same script.");
         Object.assign(second, Files.runOf({ ...page.files, ...files }), { first: page.run, state: null });
-        $("second").hidden = $("alone").hidden = false;
+        $("second").hidden = $("alone").hidden = $("first-where").hidden = false;
         $("besides").hidden = true;
         document.body.classList.add("two");
+        picture.beside = page.state;
         picture.themed();
         picture.show(second.run);
         draw();

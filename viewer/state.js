@@ -3,7 +3,7 @@
 // and keeps a mark every few thousand entries; `at(n)` copies the last mark before n and goes on from there, so that a step
 // backwards costs no more than one forwards, in a journal of any length.
 globalThis.At = (() => {
-    const { KIND } = Journal;
+    const { KIND, EVENT, HEARD } = Journal;
     const SPACING = 4096;
 
     // Of entries, `line`, `rest` and those in `address` are the numbers of rows; -1 is none.
@@ -22,13 +22,14 @@ globalThis.At = (() => {
             flying: new Map(), // frames that have begun and not ended, each with its newest entry
             counts: new Int32Array(Journal.WORDS.length + 2), // of entries, by their kind
             causes: new Int32Array(Journal.CAUSES.length),
+            messages: new Int32Array(2), // of a log: control frames over links, and messages to and from the fabric manager
         };
     };
 
     const LEFT_OUT = 2; // of a link in `failed`: it is none of the tree of learning bridges
 
     // what a state has a row of numbers of
-    const ROWS = ["places", "failed", "spots", "newest", "crossings", "carried", "counts", "causes"];
+    const ROWS = ["places", "failed", "spots", "newest", "crossings", "carried", "counts", "causes", "messages"];
 
     const copy = state => ({ ...state, ...Object.fromEntries(ROWS.map(name => [name, state[name].slice()])) });
 
@@ -54,6 +55,10 @@ globalThis.At = (() => {
         if (link >= 0) state.carried[link]++;
     };
 
+    // whether a control frame comes over a link in an event, or a message to or from the manager
+    const isControl = (run, n) => run.c[n] === EVENT.along && run.spot[n] === HEARD.message;
+    const isOfManager = (run, n) => run.c[n] === EVENT.told || run.c[n] === EVENT.says;
+
     // the next entry happens
     const step = (run, state) => {
         const n = state.entry;
@@ -71,6 +76,10 @@ globalThis.At = (() => {
             case KIND.moved: state.spots[a] = b * run.fabric.k + c; break;
             case KIND.granted: state.newest[b] = a; break;
             case KIND.freed: if (state.newest[b] === a) state.newest[b] = -1; break;
+            case KIND.event:
+                if (isControl(run, n)) state.messages[0]++;
+                else if (isOfManager(run, n)) state.messages[1]++;
+                break;
             case KIND.copied: state.flying.set(a, n).set(b, n); break;
             case KIND.sent:
             case KIND.made:
@@ -156,5 +165,5 @@ globalThis.At = (() => {
         return Frames.read(Journal.frame(journal, Journal.beginning(journal, journal.a[n]))).destination;
     };
 
-    return { LEFT_OUT, start, step, run, at, place, isPlaced, spot, where, past, newest, address };
+    return { LEFT_OUT, isControl, isOfManager, start, step, run, at, place, isPlaced, spot, where, past, newest, address };
 })();

@@ -56,7 +56,12 @@ globalThis.Stories = (() => {
         }
     });
 
+    // what the fabric manager hears and says, what it registers, and its restarts
+    const ofManager = run => select(run, n => [KIND.registered, KIND.restarted].includes(run.kind[n])
+        || (run.kind[n] === KIND.event && (At.isOfManager(run, n) || run.c[n] === Journal.EVENT.restart)));
+
     const of = (run, subject) => {
+        if (subject.manager) return ofManager(run);
         if (subject.frame !== undefined) return ofFrame(run, subject.frame);
         return subject.host !== undefined ? ofHost(run, subject.host) : ofSwitch(run, subject.switch);
     };
@@ -72,7 +77,7 @@ globalThis.Stories = (() => {
         return low;
     };
 
-    // Who is called by a text: a frame by its number, a switch by its label, a host by its name or by an address of its own or
+    // Who is called by a text: where a log is open the fabric manager, a frame by its number, a switch by its label, a host by its name or by an address of its own or
     // granted to it. A host's name may look like a frame's number; then the host comes first, and `#7` is the frame.
     const find = (run, text) => {
         const { fabric } = run;
@@ -87,6 +92,7 @@ globalThis.Stories = (() => {
             if (fabric.macs.has(number)) return { host: fabric.macs.get(number) };
             return run.byAddress.has(number) ? { host: run.addresses[run.byAddress.get(number)].host } : null;
         }
+        if (word === "manager") return Said.isLog(run) ? { manager: true } : null;
         const host = fabric.hosts.find(h => h.ip === word);
         if (host) return { host: host.number };
         const number = Fabric.number(fabric, word);

@@ -10,7 +10,7 @@ globalThis.Words = (() => {
         NoAddress: "its address is granted to nobody at the switch that it names",
         HostGone: "the host that it is for does not stand where it was led, or its sender moved away while it still waited",
         LinkDown: "the link that it was put on is failed, or failed while it waited there",
-        Lost: "a `lose` line of the script took it off its link",
+        Lost: "a lose line of the script took it off its link",
         Spent: "the port has granted all its addresses, none of them is free, and the sender has none in use there",
         BadArp: "its ARP packet cannot be read",
         NoMember: "nobody is reached there who has joined its group",
@@ -42,7 +42,9 @@ globalThis.Words = (() => {
         const ending = [11, 12, 13].includes(n % 100) ? "th" : ["th", "st", "nd", "rd"][n % 10] || "th";
         return `${n}${ending}`;
     };
-    const plural = (n, word, more = `${word}s`) => `${n} ${n === 1 ? word : more}`;
+    // a number with commas between thousands
+    const count = n => `${n}`.replace(/\B(?=(\d{3})+$)/g, ",");
+    const plural = (n, word, more = `${word}s`) => `${count(n)} ${n === 1 ? word : more}`;
 
     // the pod, position, port and number of a pseudo address
     const parts = value => {
@@ -129,7 +131,7 @@ globalThis.Words = (() => {
         const [id, here] = [run.a[n], switchOf(run, run.b[n])];
         const before = run.before[n];
         if (before >= 0 && run.kind[before] === KIND.made) return `Frame ${id} starts its way at ${here}.`;
-        if (before >= 0 && run.kind[before] === KIND.redirected) return `Frame ${id} starts anew at ${here}, for its new address.`;
+        if (before >= 0 && run.kind[before] === KIND.redirected) return `Frame ${id} starts again at ${here}, for its new address.`;
         const from = before < 0 ? null : At.where(run, before);
         if (!from) return `Switch ${here} receives frame ${id}.`;
         if (from.host !== undefined) return `Switch ${here} receives frame ${id} from its host ${hostOf(run, from.host)}.`;
@@ -201,8 +203,8 @@ globalThis.Words = (() => {
     const registered = (run, n) => {
         const { number, host, registrations } = run.addresses[run.a[n]];
         const as = registrations[run.b[n]].number;
-        const again = run.b[n] > 0 ? " anew" : "";
-        return `The fabric manager has learnt${again} ${Frames.macText(number)} of host ${hostOf(run, host)}, with number ${as}.`;
+        const again = run.b[n] > 0 ? " again" : "";
+        return `The fabric manager has learnt${again} ${Frames.macText(number)} of host ${hostOf(run, host)}, with number ${count(as)}.`;
     };
 
     const freed = (run, n) => {
@@ -212,7 +214,7 @@ globalThis.Words = (() => {
     };
 
     const restarted = (run, n) => `The fabric manager restarts, for the ${ordinal(run.a[n])} time: it has forgotten all, `
-        + "what was on its way to it and from it is lost, and each switch tells it anew what it knows.";
+        + "what was on its way to it and from it is lost, and each switch tells it again what it knows.";
 
     const placeText = ({ level, position, pod }) => {
         const part = (name, value) => (value === null ? `${name} not known` : `${name} ${value}`);
@@ -222,8 +224,8 @@ globalThis.Words = (() => {
 
     const line = (run, n, script) => {
         const text = script ? script[run.a[n] - 1] : undefined;
-        if (text === undefined) return `What follows comes of line ${run.a[n]} of the script.`;
-        return `Line ${run.a[n]} of the script, \`${Script.wordsOf(text).join(" ")}\`: ${Script.sentence(text, Journal.isOfBridge(run))}.`;
+        if (text === undefined) return `What follows comes of line ${count(run.a[n])} of the script.`;
+        return `Line ${count(run.a[n])} of the script (${Script.wordsOf(text).join(" ")}): ${Script.sentence(text, Journal.isOfBridge(run))}.`;
     };
 
     const skipped = (run, n) => {
@@ -251,14 +253,14 @@ globalThis.Words = (() => {
 
     // On bridges such a line makes sweeps, until nothing waits.
     const settled = (run, n) => {
-        if (Journal.isOfBridge(run)) return `A \`settle\` line ends after ${plural(run.a[n], "sweep")}: nothing waits in a queue.`;
-        return `A \`settle\` line ends after ${plural(run.a[n], "round")}: the fabric is settled.`;
+        if (Journal.isOfBridge(run)) return `A settle line ends after ${plural(run.a[n], "sweep")}: nothing waits in a queue.`;
+        return `A settle line ends after ${plural(run.a[n], "round")}: the fabric is settled.`;
     };
 
     const unsettled = (run, n) => {
         const waits = Journal.isOfBridge(run) ? `${plural(run.a[n], "item waits in a queue", "items wait in queues")}`
             : `the fabric is not settled: ${plural(run.a[n], "thing that stands against it waits", "things that stand against it wait")}`;
-        return `A \`settle\` line ends and ${waits}.`;
+        return `A settle line ends and ${waits}.`;
     };
 
     const SENTENCES = {
@@ -284,11 +286,11 @@ globalThis.Words = (() => {
         restarted,
     };
 
-    const other = (run, n) => `A line of a kind that this page does not know, of which it draws nothing: \`${Journal.text(run, n, 90)}\`.`;
+    const other = (run, n) => `A line of a kind that this page does not know, of which it draws nothing: ${Journal.text(run, n, 90)}.`;
 
     // what entry n means; `script` are the lines of the script, or null
     const sentence = (run, n, script = null) => {
-        if (run.kind[n] === KIND.event) return Said.sentence(run, n);
+        if (run.kind[n] === KIND.event) return Told.sentence(run, n);
         return run.kind[n] === KIND.other ? other(run, n) : SENTENCES[Journal.WORDS[run.kind[n]]](run, n, script);
     };
 
@@ -317,5 +319,5 @@ globalThis.Words = (() => {
         return rows;
     };
 
-    return { CAUSE, SKIP, isBack, sentence, header, parts, who, kindOf, placeText, trail, plural, switchOf, hostOf };
+    return { CAUSE, SKIP, isBack, sentence, header, parts, who, kindOf, placeText, trail, plural, count, switchOf, hostOf };
 })();

@@ -6,6 +6,7 @@
 const fs = require("fs");
 const using = require("./using.js");
 const points = require("./points.js");
+const seen = require("./seen.js");
 const { work, isQuiet } = require("./pages.js");
 
 const [, , kind, program] = process.argv;
@@ -17,7 +18,7 @@ const CHROMIUM_ALONE = ["a_folder_is_dropped", "a_folder_is_opened"];
 
 const tests = [
     ...Object.entries(using).filter(([name]) => kind !== "firefox" || !CHROMIUM_ALONE.includes(name)).map(([name, test]) => [name, test, WIDE]),
-    ...WIDTHS.flatMap(size => Object.entries(points).map(([name, test]) => [`${name}, ${size[0]} wide`, test, size])),
+    ...WIDTHS.flatMap(size => Object.entries({ ...points, ...seen }).map(([name, test]) => [`${name}, ${size[0]} wide`, test, size])),
 ].filter(([name]) => name.includes(process.env.ONLY || ""));
 
 const run = async browser => {

@@ -5,8 +5,8 @@ const os = require("os");
 const path = require("path");
 
 const top = path.resolve(__dirname, "../..");
-for (const name of ["toml", "fabric", "journal", "frames", "state", "stories", "script", "said", "words", "table", "rules", "scene", "layout",
-    "facts", "knowledge", "step", "moment", "example", "chart", "svg", "files"]) {
+for (const name of ["toml", "fabric", "journal", "frames", "state", "stories", "script", "said", "told", "manager", "words", "table", "drops", "why", "rules", "scene", "layout",
+    "facts", "knowledge", "step", "sift", "moment", "example", "chart", "svg", "files"]) {
     require(path.join(top, "viewer", `${name}.js`));
 }
 

@@ -67,7 +67,13 @@ const what_was_taken_is_not_behind = () => {
         assert(from > 0 && rows.length >= least, heading);
         assert.deepEqual(table.trim().split("\n"), rows.map(row => row.replace(/`/g, '"')), "run viewer/take: docs/RULES.md has changed");
     }
+    const all = new Set(rules.split("\n").filter(line => line.startsWith("|")).map(row => row.replace(/`/g, '"')));
+    const steps = Table.steps.trim().split("\n");
+    assert(steps.length > 100 && steps.every(row => all.has(row)), "run viewer/take: docs/RULES.md has changed");
     const unpacked = text => zlib.gunzipSync(Buffer.from(text, "base64")).toString();
+    for (const [kind, file] of [["topology", "topology.toml"], ["script", "script"], ["journal", "expected-watch/log.txt"]]) {
+        assert.equal(unpacked(Example.log[kind]), stored(`examples/${Example.log.name}/${file}`), "run viewer/take: the log has changed");
+    }
     for (const [kind, file] of [["topology", "topology.toml"], ["script", "script"], ["journal", "expected/journal.txt"]]) {
         assert.equal(unpacked(Example[kind]), stored(`examples/${Example.name}/${file}`), "run viewer/take: the example has changed");
     }

@@ -44,15 +44,22 @@ const packed = async (browser, folder, end = "") => {
     return run;
 };
 
+const commas = n => n.toLocaleString("en-US");
+
+// what the page counts, as a summary has it
+const asSummary = counts => counts.replace(/ \(.*\)/, "").replace(/(\d),(\d)/g, "$1$2").replace(/, /g, " ").replace("in flight", "flying");
+
 // what the page says is what the journal has once so many entries have happened
 const says = async (browser, { run, script, states }, entry) => {
-    assert.match(await browser.text("where"), new RegExp(`^entry ${entry} of ${run.count}(,|$)`));
-    assert.equal(await browser.text("raw"), entry === 0 ? "" : Journal.text(run, entry - 1, 400));
+    assert.match(await browser.text("where"), new RegExp(`^entry ${commas(entry)} of ${commas(run.count)}(,|$)`));
+    assert.equal(await browser.text("raw"), entry === 0 ? "" : Journal.text(run, entry - 1, run.kind[entry - 1] === Journal.KIND.event ? Infinity : 400));
     if (entry > 0) assert.equal(await browser.text("said"), Words.sentence(run, entry - 1, script));
     const flying = At.at(states, entry).flying.size;
-    assert((await browser.text("counts")).endsWith(` flying ${flying}`));
+    assert((await browser.text("counts")).endsWith(`, in flight ${commas(flying)}`));
+    const { folded } = Sift.of(run, null, Sift.NONE, script);
     const marked = await browser.value("[...document.querySelectorAll('#journal .row.now code')].map(code => code.textContent)");
-    assert.deepEqual(marked, entry === 0 ? [] : [`${entry}  ${Journal.text(run, entry - 1, 90)}`]);
+    const isFolded = [...folded].some(([first, count]) => entry > first && entry <= first + count);
+    if (!isFolded) assert.deepEqual(marked, entry === 0 ? [] : [`${entry}  ${Journal.text(run, entry - 1, 90)}`]);
 };
 
 // Saves a picture of the page as it is, where pictures are wanted.
@@ -65,4 +72,4 @@ const isQuiet = browser => {
     assert.deepEqual(browser.asked.filter(url => !/^(file|data):/.test(url)), []);
 };
 
-module.exports = { patience, PAGE, SHIFT, work, filesOf, isOpen, opened, dropped, packed, says, picture, isQuiet };
+module.exports = { patience, PAGE, SHIFT, work, filesOf, isOpen, opened, dropped, packed, says, picture, isQuiet, asSummary };

@@ -166,7 +166,8 @@ const the_rule_stands_below_the_sentence = async (browser, width) => {
     await picture(browser, `rule-${width}`);
     const lost = run.journal.split("\n").findIndex(line => line.endsWith(" HostGone")) + 1;
     await browser.value(`Page.step(${lost})`);
-    assert.match(await browser.text("look"), /^Look at the story of the host/);
+    assert.equal(await browser.text("look"), Drops.said(run.run, lost - 1, At.at(run.states, lost), run.script));
+    assert.match(await browser.text("look"), / is attached to port | moved away /);
     await browser.value("Page.step(80)");
     assert.equal(await browser.text("look"), "");
     assert((await browser.text("rule")).startsWith("Rule: "));
@@ -181,7 +182,7 @@ const loads_and_the_chart = async (browser, width) => {
     const crossed = run.journal.split("\n").slice(0, 600).filter(line => /^crossed \d+ e0\.0$/.test(line)).length;
     const shown = await texts(browser);
     assert(shown.includes(`${crossed} frames`) || shown.includes(`${crossed}`), `${crossed}: ${shown}`);
-    assert.match(await browser.text("scale"), /^over a link:1/);
+    assert.match(await browser.text("scale"), /^frames over a link:1/);
     await picture(browser, `loads-${width}`);
     const box = await browser.value(`(() => { const e = document.querySelector("#chart > svg"); e.scrollIntoView({ block: "center" });
         const r = e.getBoundingClientRect(); return { x: r.x, y: r.y + r.height / 2, width: r.width }; })()`);
@@ -333,7 +334,7 @@ const a_line_of_another_kind_stops_nothing = async browser => {
     await browser.choose([path.join(folder, "topology.toml"), journal]);
     await browser.until(isOpen(95));
     await browser.value("Page.step(61)");
-    assert.equal(await browser.text("said"), "A line of a kind that this page does not know, of which it draws nothing: `paused 3 e0.0`.");
+    assert.equal(await browser.text("said"), "A line of a kind that this page does not know, of which it draws nothing: paused 3 e0.0.");
     await browser.press("End");
     assert.equal(await browser.text("raw"), lines[94]);
 };

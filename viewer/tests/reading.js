@@ -143,7 +143,7 @@ const a_line_of_another_kind_is_shown_as_it_is = () => {
     const run = openTexts(HOSTS, `${lines.join("\n")}\n`);
     assert.deepEqual(lines.map((_, n) => Journal.text(run, n)), lines);
     assert.deepEqual([2, 4].map(n => run.kind[n]), [Journal.KIND.other, Journal.KIND.other]);
-    const said = text => `A line of a kind that this page does not know, of which it draws nothing: \`${text}\`.`;
+    const said = text => `A line of a kind that this page does not know, of which it draws nothing: ${text}.`;
     for (const n of [2, 4]) {
         assert.equal(Words.sentence(run, n), said(lines[n]));
         assert.deepEqual([Rules.of(run, n), Rules.look(run, n), Journal.frameOf(run, n)], [[], "", 0]);

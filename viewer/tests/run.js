@@ -1,6 +1,6 @@
 "use strict";
 // Runs the tests that need no browser: each is a plain function that throws where it fails.
-const tests = ["reading", "playing", "telling", "saying", "showing", "packing"].flatMap(name => Object.entries(require(`./${name}.js`)));
+const tests = ["reading", "playing", "telling", "saying", "showing", "dropping", "sifting", "packing"].flatMap(name => Object.entries(require(`./${name}.js`)));
 let failed = 0;
 for (const [name, test] of tests) {
     try {

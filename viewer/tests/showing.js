@@ -11,18 +11,19 @@ const RULES = [
     ["examples/four-hosts", 2, "`sent_by_host`", "crates/pl_world/specs/Changes.antt", ""],
     ["examples/four-hosts", 4, "`ComesAtSwitch`", "crates/pl_world/specs/WorldRule.antt", ""],
     ["examples/four-hosts", 10, "by `grants_next`", "crates/pl_switch_rule/specs/Granting.antt", ""],
-    ["tests/fabric/link-fails-with-frames", 104, "`goes_out`, `link_failed`", "crates/pl_world/specs/LinksAndMoves.antt", "Look at the last `linkdown`"],
+    ["tests/fabric/link-fails-with-frames", 104, "`goes_out`, `link_failed`", "crates/pl_world/specs/LinksAndMoves.antt", "The link e0.0 - a0.0 failed at entry 103"],
     ["viewer/tests/runs/address-given-again", 731, "by `frees`", "crates/pl_switch_rule/specs/Messages.antt", ""],
     ["tests/restart/the-manager-restarts", 96, "`manager_restarted`", "crates/pl_world/specs/Restarting.antt", ""],
-    ["tests/fabric/group", 133, "`no_way`", "crates/pl_switch_rule/specs/GroupForwarding.antt", "Look at the `join`"],
+    ["tests/fabric/group", 133, "`no_way`", "crates/pl_switch_rule/specs/GroupForwarding.antt", "e0.0 has no part of the tree of group 66051"],
 ];
 
 const the_rule_of_an_entry_is_that_of_the_table = () => {
     for (const [name, line, says, file, look] of RULES) {
-        const { run } = open(name);
+        const { run, states } = open(name);
         const rules = Rules.of(run, line - 1);
+        const told = Rules.look(run, line - 1, At.at(states, line));
         assert(rules.some(rule => rule.says.includes(says) && rule.files.includes(file)), `${name}, line ${line}: ${JSON.stringify(rules)}`);
-        assert(Rules.look(run, line - 1).startsWith(look) && (look !== "" || Rules.look(run, line - 1) === ""));
+        assert(told.startsWith(look) && (look !== "" || told === ""), told);
     }
     const { run: failing } = open("tests/fabric/link-fails-with-frames");
     assert(!Rules.of(failing, 103).some(({ says }) => says.includes("cause_of")), "of a link, and not a switch's choice");
@@ -45,12 +46,12 @@ const a_copy_that_comes_back_says_why_it_ends = () => {
 // run, line of the journal, and what is said of it: aging, a manager that restarts, and a learning bridge
 const LATER = [
     ["viewer/tests/runs/address-given-again", "freed 00:01:00:00:00:01", "Switch e1.0 frees the pseudo address 00:01:00:00:00:01, which host d had: nobody uses it now, and port 0 may grant it again."],
-    ["tests/restart/before-a-move-was-told", "restarted 1", "The fabric manager restarts, for the 1st time: it has forgotten all, what was on its way to it and from it is lost, and each switch tells it anew what it knows."],
-    ["tests/restart/before-a-move-was-told", "registered 00:01:00:00:00:01 4294967301", "The fabric manager has learnt anew 00:01:00:00:00:01 of host d, with number 4294967301."],
+    ["tests/restart/before-a-move-was-told", "restarted 1", "The fabric manager restarts, for the 1st time: it has forgotten all, what was on its way to it and from it is lost, and each switch tells it again what it knows."],
+    ["tests/restart/before-a-move-was-told", "registered 00:01:00:00:00:01 4294967301", "The fabric manager has learnt again 00:01:00:00:00:01 of host d, with number 4,294,967,301."],
     ["tests/bridge/learnt", "linkdown e0.0 a0.1", "The link between e0.0 and a0.1 is left out before the first line: a learning bridge wants a tree."],
     ["tests/bridge/a-link-of-the-tree-fails", "linkdown e1.0 a1.0", "The link between e1.0 and a1.0 fails."],
-    ["tests/bridge/learnt", "settled 3", "A `settle` line ends after 3 sweeps: nothing waits in a queue."],
-    ["tests/bridge/random-01", "unsettled 1", "A `settle` line ends and 1 item waits in a queue."],
+    ["tests/bridge/learnt", "settled 3", "A settle line ends after 3 sweeps: nothing waits in a queue."],
+    ["tests/bridge/random-01", "unsettled 1", "A settle line ends and 1 item waits in a queue."],
 ];
 
 const what_aging_restarts_and_bridges_bring_is_said = () => {
@@ -104,7 +105,7 @@ const each_entry_of_a_bridge_has_its_rule = () => {
             const rules = Rules.of(run, n);
             seen.add(wanted);
             assert.deepEqual(rules.map(({ says }) => says.includes(wanted)), wanted ? [true] : [], `${folder}, line ${n + 1}`);
-            assert.equal(Rules.look(run, n) !== "", word === "dropped", `${folder}, line ${n + 1}`);
+            assert.equal(Rules.look(run, n, null) !== "", word === "dropped", `${folder}, line ${n + 1}`);
         }
     }
     for (const wanted of ["`link_failed`", ...Object.values(BRIDGE_RULES)]) assert(seen.has(wanted), wanted);
@@ -254,19 +255,15 @@ const an_address_to_which_a_frame_goes_on_is_newer_where_it_was_granted_later = 
     ]);
 };
 
-// Behind a restart a switch knows no part of a tree and avoids nothing until it is told anew, which is a reason for these causes alone.
-const behind_a_restart_it_is_to_be_looked_at = () => {
-    const { run, journal } = open("tests/restart/random-07");
+// After a restart a switch knows no part of a tree until it is told again, which is told where a frame had no tree to go by.
+const behind_a_restart_it_is_told = () => {
+    const { run, states, journal } = open("tests/restart/random-01");
     const lines = journal.split("\n");
     const restart = lines.findIndex(line => line.startsWith("restarted ")) + 1;
-    const looks = lines.flatMap((line, n) => (line.startsWith("dropped ") ? [[n + 1, line.split(" ")[2], Rules.look(run, n)]] : []));
-    const behind = looks.filter(([line]) => line > restart);
-    assert(behind.some(([, cause]) => cause === "NoMember") && behind.some(([, cause]) => cause === "HostGone"));
-    for (const [line, cause, look] of looks) {
-        const wanted = line > restart && ["NoNextHop", "NoMember"].includes(cause);
-        assert.equal(look.endsWith(` The fabric manager restarted by entry ${restart}: a switch that has heard of it avoids nothing and knows no part of a tree `
-            + "until it is told anew."), wanted, `line ${line}: ${look}`);
-    }
+    const looks = lines.flatMap((line, n) => (line.startsWith("dropped ") ? [[n + 1, line.split(" ")[2], Rules.look(run, n, At.at(states, n + 1))]] : []));
+    const told = looks.filter(([, , look]) => look.includes(` the fabric manager has told it none since it restarted at entry ${restart}`));
+    assert.deepEqual(told.map(([line]) => line), [35, 47]);
+    assert(told.every(([line, cause]) => line > restart && cause === "NoNextHop"));
 };
 
 const loads_are_the_crossings = () => {
@@ -298,11 +295,11 @@ const the_chart_counts_what_the_summary_counts = () => {
 const a_link_names_a_moment = () => {
     const { run } = open("examples/four-hosts");
     for (const subject of [null, { frame: 13 }, { host: 0 }, { switch: 0 }]) {
-        assert.deepEqual(Moment.read(run, Moment.text(run, 91, subject)), { entry: 91, subject });
+        assert.deepEqual(Moment.read(run, Moment.text(run, 91, subject)), { entry: 91, subject, sift: Sift.NONE });
     }
     assert.equal(Moment.text(run, 91, { frame: 13 }), "#entry=91&story=13");
-    assert.deepEqual(Moment.read(run, "#story=e0.0"), { entry: -1, subject: { switch: 0 } });
-    assert.deepEqual(Moment.read(run, "#entry=1000"), { entry: run.count, subject: null });
+    assert.deepEqual(Moment.read(run, "#story=e0.0"), { entry: -1, subject: { switch: 0 }, sift: Sift.NONE });
+    assert.deepEqual(Moment.read(run, "#entry=1000"), { entry: run.count, subject: null, sift: Sift.NONE });
     for (const none of ["", "#", "#entry=x", "#story=nobody", "#other"]) assert.equal(Moment.read(run, none), null);
 };
 
@@ -310,6 +307,6 @@ module.exports = {
     the_rule_of_an_entry_is_that_of_the_table, a_copy_that_comes_back_says_why_it_ends, what_aging_restarts_and_bridges_bring_is_said,
     a_flood_of_a_bridge_is_told, each_entry_of_a_bridge_has_its_rule, bridges_have_no_places, the_second_run_is_in_step_by_line, what_is_known_is_what_has_happened,
     what_the_manager_knows_goes_with_a_restart, an_address_of_many_restarts_is_looked_up,
-    an_address_to_which_a_frame_goes_on_is_newer_where_it_was_granted_later, behind_a_restart_it_is_to_be_looked_at, loads_are_the_crossings,
+    an_address_to_which_a_frame_goes_on_is_newer_where_it_was_granted_later, behind_a_restart_it_is_told, loads_are_the_crossings,
     the_chart_counts_what_the_summary_counts, a_link_names_a_moment,
 };

@@ -5,14 +5,14 @@ const { folders, shortFolders, open, openTexts } = require("./load.js");
 
 // run, line of the journal, and the sentence that says what it means
 const SENTENCES = [
-    ["examples/four-hosts", 1, "Line 1 of the script, `start a`: host a announces itself by an ARP request for its own address."],
+    ["examples/four-hosts", 1, "Line 1 of the script (start a): host a announces itself by an ARP request for its own address."],
     ["examples/four-hosts", 2, "Host a sends frame 1, to all: an ARP request for its own address, 10.0.0.1."],
     ["examples/four-hosts", 4, "Switch e0.0 receives frame 1 from its host a."],
     ["examples/four-hosts", 5, "Switch e0.0 takes frame 1 (an ARP request for its own address, 10.0.0.1): it is for the switch itself."],
     ["examples/four-hosts", 9, "Switch e0.0 knows of its place now: level 0 (edge), position 0, pod not known."],
     ["examples/four-hosts", 10, "Host a gets the pseudo address 00:00:00:00:00:01 at port 0 of e0.0: pod 0, position 0, port 0, number 1."],
     ["examples/four-hosts", 12, "The fabric manager has learnt 00:00:00:00:00:01 of host a, with number 1."],
-    ["examples/four-hosts", 15, "A `settle` line ends after 6 rounds: the fabric is settled."],
+    ["examples/four-hosts", 15, "A settle line ends after 6 rounds: the fabric is settled."],
     ["examples/four-hosts", 58, "Switch e0.0 makes frame 6, to a's pseudo address: an ARP reply: 10.0.0.2 is at 00:00:00:01:00:01."],
     ["examples/four-hosts", 59, "Frame 6 starts its way at e0.0."],
     ["examples/four-hosts", 61, "Host a sends frame 7, to b's pseudo address: 60 bytes of type 0x88b6."],
@@ -21,7 +21,7 @@ const SENTENCES = [
     ["examples/four-hosts", 93, "Frame 13 arrives at host d: 60 bytes of type 0x88b6. It crossed 5 switches: e0.0, a0.0, c0.0, a1.0, e1.0."],
     ["tests/fabric/group", 96, "Host c sends frame 14, to routed group 66051: an IGMP report: it joins 239.1.2.3."],
     ["tests/fabric/held-frames", 51, "A record of a's capture is not played: HoldFull, 64 frames wait for that address already."],
-    ["tests/fabric/random-02", 169, "A `settle` line ends and the fabric is not settled: 0 things that stand against it wait."],
+    ["tests/fabric/random-02", 169, "A settle line ends and the fabric is not settled: 0 things that stand against it wait."],
     ["tests/fabric/link-fails-with-frames", 103, "The link between e0.0 and a0.0 fails."],
     ["tests/fabric/link-fails-with-frames", 104, "Frame 14 ends after switch e0.0, which it crossed last: LinkDown, the link that it was put on is failed, or failed while it waited there."],
     ["tests/fabric/link-fails-with-frames", 107, "The link between e0.0 and a0.0 is repaired."],
@@ -30,7 +30,7 @@ const SENTENCES = [
     ["tests/fabric/move-twice", 96, "Host d moves to port 1 of e0.1."],
     ["tests/fabric/move-twice", 131, "Host d has moved on: frame 18, for 00:01:00:00:00:01, goes on to its newer address 00:01:00:01:00:01 (pod 1, position 0, port 1, number 1)."],
     ["tests/fabric/move-twice", 132, "The fabric manager took an earlier address of host d for the newer one: frame 18, for 00:01:00:01:00:01, goes on to 00:00:01:01:00:01 (pod 0, position 1, port 1, number 1)."],
-    ["tests/fabric/move-twice", 133, "Frame 18 starts anew at e1.0, for its new address."],
+    ["tests/fabric/move-twice", 133, "Frame 18 starts again at e1.0, for its new address."],
 ];
 
 const each_kind_of_entry_has_its_sentence = () => {

@@ -5,7 +5,7 @@ const fs = require("fs");
 const path = require("path");
 const { top, open, folders, journalOf } = require("./load.js");
 const long = require("./long.js");
-const { patience, PAGE, SHIFT, work, filesOf, isOpen, opened, dropped, packed, says, picture } = require("./pages.js");
+const { patience, PAGE, SHIFT, work, filesOf, isOpen, opened, dropped, packed, says, picture, asSummary } = require("./pages.js");
 
 const a_run_is_opened_and_stepped_through = async browser => {
     const run = await opened(browser, "examples/four-hosts");
@@ -43,7 +43,7 @@ const a_log_is_opened = async browser => {
     }
 };
 
-// In the log of a restart its event stands before the entry, is drawn nowhere, and is stepped over both ways.
+// In the log of a restart its event stands before the entry, is drawn at the fabric manager, and is stepped over both ways.
 const a_log_with_a_restart_is_opened = async browser => {
     const folder = path.join(top, "examples/manager-restarts");
     const stored = fs.readFileSync(path.join(folder, "expected/journal.txt"), "utf8");
@@ -58,7 +58,7 @@ const a_log_with_a_restart_is_opened = async browser => {
     await browser.until(isOpen(stored.split("\n").length));
     await browser.press("ArrowRight");
     await says(browser, { run, script, states }, event);
-    assert.equal(await browser.text("said"), "The fabric manager restarts.");
+    assert.match(await browser.text("said"), /^The fabric manager restarts: it forgets all/);
     await browser.press("o");
     await browser.press("+");
     await browser.press("ArrowRight");
@@ -102,7 +102,7 @@ const a_packed_run_plays_to_its_end = async browser => {
     await browser.press(" ");
     await browser.until("document.getElementById('next').disabled");
     await says(browser, run, run.run.count);
-    const counts = (await browser.text("counts")).replace(/ \(.*\)/, "");
+    const counts = asSummary(await browser.text("counts"));
     assert(run.summary.includes(counts), counts);
     await browser.press("ArrowLeft");
     await says(browser, run, run.run.count - 1);
@@ -212,7 +212,7 @@ const each_example_opens_and_ends_as_its_summary_says = async browser => {
         const run = await packed(browser, folder);
         await browser.press("End");
         await says(browser, run, run.run.count);
-        assert(run.summary.includes((await browser.text("counts")).replace(/ \(.*\)/, "")), folder);
+        assert(run.summary.includes(asSummary(await browser.text("counts"))), folder);
     }
 };
 
@@ -230,7 +230,7 @@ const a_million_lines_open_within_five_seconds_and_are_stepped_at_once = async b
     for (let n = 0; n < 10; n++) await browser.press("ArrowLeft");
     assert((Date.now() - steps) / 10 < 200 * patience(), `${(Date.now() - steps) / 10} milliseconds a step`);
     const count = await browser.value("Number(document.body.dataset.open)");
-    assert((await browser.text("where")).startsWith(`entry ${count - 10} of ${count}`));
+    assert((await browser.text("where")).startsWith(`entry ${(count - 10).toLocaleString("en-US")} of ${count.toLocaleString("en-US")}`));
 };
 
 const the_dark_page_works_too = async browser => {

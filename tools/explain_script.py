@@ -1,9 +1,11 @@
 """What is wrong with a line of a script, or was refused when it was played: for tools/explain."""
 
+import os
 import pathlib
 import re
 
-from explain_topology import label_fault, listed, near, or_near, printable
+from explain_captures import counts_of, none_of_ethernet
+from explain_topology import label_fault, listed, near, or_near, printable, reads_as_topology
 
 CAUSES = ["NotPlaced", "NoNextHop", "NoAddress", "HostGone", "LinkDown", "Lost", "Spent", "BadArp", "NoMember"]
 VERBS = {
@@ -124,7 +126,7 @@ def line_fault(fabric, words):
             return "Word", 1, f"`expect {verb}` is no line" + or_near(verb, ["arrived", "dropped", "address", "settled"]) + f" It wants {forms_text('expect')}"
     form = next((form for form in forms_of(verb) if len(form) == len(rest)), None)
     if form is None:
-        return "Count", 0, count_hint(words, before)
+        return "Count", 0, count_hint(fabric, words, before)
     for at, (kind, word) in enumerate(zip(form, rest)):
         if word == "all" and takes_all(verb, at):
             continue
@@ -147,8 +149,28 @@ def verb_hint(verb):
     return f"`{verb}` begins no line" + (f"; is it {forms_text(found)}?" if found else f"; lines begin with {', '.join(VERBS)}")
 
 
-def count_hint(words, before):
+def apart(word):
+    """The two switches of a link as the tools print it, `e0.0-a0.0`; nothing of other words."""
+    ends = re.fullmatch(r"([eac][0-9]+\.[0-9]+)-([eac][0-9]+\.[0-9]+)", word)
+    return f"{ends[1]} {ends[2]}" if ends else ""
+
+
+def link_hint(fabric, verb, word):
+    """Of `fail` or its like with one word behind it."""
+    if apart(word):
+        return f"two words name a link: `{verb} {apart(word)}`"
+    if word not in fabric.labels():
+        return None
+    lines = "".join(f"\n  {verb} {word} {other}" for other in fabric.neighbours(word))
+    return f"`{verb}` names a link by its two switches; all links of {word} are these lines:{lines}"
+
+
+def count_hint(fabric, words, before):
     verb = words[0]
+    if any(word[0] == ";" or word[:2] in ("//", "--") for word in words[1:]):
+        return "comments begin with `#`"
+    if verb in ("fail", "repair", "lose") and len(words) == 2 and link_hint(fabric, verb, words[1]):
+        return link_hint(fabric, verb, words[1])
     if verb in ("start", "retry", "send", "raw") and len(words) > 2:
         return f"{forms_text(verb)}: one host a line"
     if verb in ("settle", "sweep") and len(words) == 1:
@@ -175,8 +197,9 @@ def words_in(line):
 
 
 class Script:
-    def __init__(self, path):
+    def __init__(self, path, captures=""):
         self.path = path
+        self.captures = captures
         try:
             self.data = pathlib.Path(path).read_bytes()
         except OSError:
@@ -193,6 +216,10 @@ def script_hints(fabric, script, number, reason):
     if reason == "NotUtf8":
         wide = b"\0" in script.data[:200]
         return [f"  line {number}: {script.data.split(chr(10).encode())[number - 1][:60]!r}", "hint: " + ("this is UTF-16 or no text at all" if wide else "a letter here is no UTF-8, be it in the comment") + ": save the script as UTF-8"]
+    if script.data.startswith(b"\xef\xbb\xbf") and number == 1:
+        return shown_line(script.lines, 1) + ["hint: the script begins with a byte order mark, which no word has: save it as UTF-8 without one"]
+    if reason == "Word" and reads_as_topology(script.lines):
+        return shown_line(script.lines, number) + ["hint: this reads as a topology, and a script is wanted: are --topology and --script swapped?"]
     words = script.words(number)
     fault = line_fault(fabric, words) if words else None
     if fault is None or fault[0] != reason or (reason == "Name" and fabric.document is None):
@@ -279,6 +306,9 @@ def nothing_there(fabric, script, number, words):
         host = next((table for table in fabric.tables["host"] if table.get("name") == words[1]), {})
         if "capture" not in host:
             return f"the topology names no `capture` for `{words[1]}`, so it has no records to send"
+        counts = counts_of(f"{script.captures}/{host['capture']}")
+        if counts and 1 not in counts:
+            return f"{host['capture']} has {none_of_ethernet(counts)}: capture on an Ethernet interface"
         return f"{host['capture']} has fewer records than the script asks for so far; `{words[0]} {words[1]} all` sends what is left, and never too much"
     if words[0] in ("deliver", "lose"):
         return f"nothing waits from {words[1]} to {words[2]} at this line: `./portland until {number} ..` shows what happened before"
@@ -307,4 +337,19 @@ def expectation_hints(script, number, words):
 
 def until(number, words):
     rest = words[1:] if words and words[0] == "run" else words
-    return f"`./portland until {number} {' '.join(rest)}`"
+    line = f"`./portland until {number} {' '.join(rest)}`"
+    # A script of standard input was read, and is gone.
+    if os.environ.get("PORTLAND_SCRIPT") == "-":
+        line = f"with the script in FILE, `./portland until {number} {' '.join(with_script(rest, 'FILE'))}`"
+    return line
+
+
+def with_script(words, name):
+    """The words of a call with this name for the script."""
+    shown = list(words)
+    for at, word in enumerate(words):
+        if word.startswith("--script="):
+            shown[at] = f"--script={name}"
+        elif at and words[at - 1] == "--script":
+            shown[at] = name
+    return shown

@@ -249,6 +249,8 @@ def unread_keys(fabric):
 def toml_hint(fabric):
     if fabric.fault is None:
         return []
+    if reads_as_script(fabric.lines):
+        return [*numbered(fabric.lines, 1, 1), "hint: this reads as a script, and a topology is wanted: are --topology and --script swapped?"]
     if isinstance(fabric.fault, UnicodeDecodeError):
         return ["hint: the file is no UTF-8 text: save it as UTF-8, without a byte order mark"]
     text = str(fabric.fault)
@@ -261,7 +263,33 @@ def toml_hint(fabric):
     return lines + [f"hint: {re.sub(r' [(]at .*', '', text)}{toml_slip(line, text)}"]
 
 
+SCRIPT_LINE = re.compile(r"(start|send|raw|retry|join|leave|move|fail|repair|lose|deliver|tick|sweep|settle|random|restart|expect)(\s|$)")
+TOPOLOGY_LINE = re.compile(r"\[\[|\w+\s*=")
+
+
+def first_words(lines):
+    """The first line that has more than a comment."""
+    return next((line.strip() for line in lines if line.strip() and not line.lstrip().startswith("#")), "")
+
+
+def reads_as_script(lines):
+    return SCRIPT_LINE.match(first_words(lines)) is not None
+
+
+def reads_as_topology(lines):
+    return TOPOLOGY_LINE.match(first_words(lines)) is not None
+
+
 def toml_slip(line, text):
+    zeros = re.match(r"\s*[\w-]+\s*=\s*0+(\d+)\s*(#.*)?$", line)
+    if re.search("[\u201c\u201d\u201e\u2018\u2019\u201a\u00ab\u00bb]", line):
+        return ': these are the quotes of a word processor: write plain ones, ""'
+    if line.lstrip().startswith((";", "//")):
+        return ": comments begin with `#`"
+    if zeros:
+        return f": a number has no zeros in front: {zeros[1]}"
+    if re.search(r"=.*,\s*(#.*)?$", line):
+        return ": no comma stands at the end of a line: take it away"
     bare = re.match(r"\s*[\w-]+\s*=\s*([A-Za-z0-9][^\s\"'#]*)\s*(#.*)?$", line)
     if re.match(r"\s*\w+\s*:", line) or line.lstrip().startswith("{"):
         return ": TOML wants `key = value`, and `[[host]]` above each host"

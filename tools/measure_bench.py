@@ -10,7 +10,7 @@ import sys
 from dataclasses import dataclass, field
 
 from portland_journal import Fault
-from portland_play import TOP, program
+from portland_play import TOP
 
 CHILD = TOP / "tools" / "measure_child.py"
 LIMIT = TOP / "tools" / "measure_limit" / "main.rs"
@@ -177,12 +177,20 @@ def told_by(words):
             raise
 
 
+def named_program():
+    """The program that PORTLAND_PROGRAM names."""
+    found = shutil.which(os.environ["PORTLAND_PROGRAM"])
+    if found is None:
+        raise Fault(f"PORTLAND_PROGRAM names no program: {os.environ['PORTLAND_PROGRAM']}")
+    return str(pathlib.Path(found).absolute())
+
+
 def proved_program():
-    """The program that is measured: what PORTLAND names, or the one that is proved here."""
-    if os.environ.get("PORTLAND"):
-        return program()
+    """The program that is measured: what PORTLAND_PROGRAM names, or the one that is proved here."""
+    if os.environ.get("PORTLAND_PROGRAM"):
+        return named_program()
     if subprocess.run([str(TOP / "portland"), "prove"], check=False).returncode:
-        raise Fault("the program could not be proved: name one by PORTLAND=FILE, or see what was said above")
+        raise Fault("the program could not be proved: name one by PORTLAND_PROGRAM=FILE, or see what was said above")
     return str(TOP / "crates" / "portland" / "out" / "portland")
 
 

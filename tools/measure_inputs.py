@@ -4,7 +4,8 @@ import struct
 
 from portland_frames import mac_bytes
 from portland_journal import topology_text
-from portland_play import LONGEST, all_hosts
+from portland_captures import LONGEST
+from portland_play import all_hosts
 
 PARTNERS = 8  # to how many others a host sends
 CHUNK = 1000  # frames that are sent between two times that all queues are emptied

@@ -49,6 +49,16 @@ def source_at(state, host, edge, port):
     return mac_bytes(found) if found else None
 
 
+FLOOD = 1 << 23  # the number under which all groups go that are not routed
+
+
+def group_number(address):
+    """The number of a group by the destination of a frame: the low 23 bits of a group of IPv4 from 256 on, and else that of a flood."""
+    number = int.from_bytes(address[3:6], "big")
+    is_ip_group = address[:3] == b"\x01\x00\x5e" and number < FLOOD
+    return number if is_ip_group and number >= 256 else FLOOD
+
+
 class Forwarding:
     def __init__(self, fabric, state, failed=None):
         self.fabric = fabric
@@ -101,19 +111,62 @@ class Forwarding:
     def candidates(self, label, to, is_from_above):
         return [(port, other) for port, other in self.near(label) if self.leads_on(label, other, to, is_from_above)]
 
+    @staticmethod
+    def pick(candidates, data):
+        """The candidate that the flow of a frame takes."""
+        return candidates[flow_hash(data) % len(candidates)]
+
     def way(self, edge, data):
         """The steps of a frame that comes from a host of this edge switch, as that one passes it on."""
         to = pmac_of(data)
-        value = flow_hash(data)
         steps = []
         at, is_from_above = edge, False
         while True:
             if self.is_local(at, to):
                 return [*steps, Step(at, [], None, True)]
             found = self.candidates(at, to, is_from_above)
-            chosen = found[value % len(found)] if found else None
+            chosen = self.pick(found, data) if found else None
             steps.append(Step(at, found, chosen))
             if chosen is None:
                 return steps
             is_from_above = self.level(chosen[1]) < self.level(at)
             at = chosen[1]
+
+
+class Tree:
+    """The tree of a group in a settled fabric, as docs/RULES.md has it ('Groups'): one core switch, and what lies below it."""
+
+    def __init__(self, forwarding, number, needed):
+        self.forwarding = forwarding
+        self.number = number
+        self.needed = needed  # labels of the edge switches that need the group
+        reaches = {core: sum(self.reaches(core, edge) for edge in needed) for core in self.at_level(2)}
+        self.reach = max(reaches.values(), default=0)
+        self.best = [core for core, reach in reaches.items() if reach == self.reach] if needed else []
+        self.core = self.best[number % len(self.best)] if self.best else None
+
+    def at_level(self, level):
+        """The switches that know this level, by rising id."""
+        switches = sorted(self.forwarding.fabric.switches, key=lambda switch: switch.id)
+        return [switch.label for switch in switches if self.forwarding.level(switch.label) == level]
+
+    def near(self, label, level):
+        """The neighbours of this level over live links, by rising id."""
+        by_label = self.forwarding.fabric.by_label
+        found = [other for _, other in self.forwarding.near(label) if self.forwarding.level(other) == level]
+        return sorted(found, key=lambda other: by_label[other].id)
+
+    def reaches(self, core, edge):
+        return any(self.forwarding.is_alive(a, edge) for a in self.near(core, 1))
+
+    def way_up(self, edge):
+        """The aggregation switch by which an edge switch sends up to the core switch."""
+        pod = self.forwarding.places[edge].pod
+        ups = [a for a in self.near(edge, 1) if self.forwarding.places[a].pod == pod]
+        return next((a for a in ups if self.core and self.forwarding.is_alive(a, self.core)), None)
+
+    def below(self, label):
+        """The switches to which a switch of the tree sends down."""
+        if label == self.core:
+            return [a for a in self.near(label, 1) if any(self.forwarding.is_alive(a, edge) for edge in self.needed)]
+        return [edge for edge in self.needed if self.forwarding.is_alive(label, edge)]

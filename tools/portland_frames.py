@@ -30,6 +30,13 @@ def kind_of(data):
     return int.from_bytes(data[12:14], "big")
 
 
+def untagged(data):
+    """A frame without its VLAN tags."""
+    while data[12:14] in (b"\x81\x00", b"\x88\xa8") and len(data) >= 18:
+        data = data[:12] + data[16:]
+    return data
+
+
 class Packet:
     """The IPv4 part of a frame."""
 
@@ -72,6 +79,32 @@ def flow_hash(data):
     if packet is None:
         return fnv1a(data[:14])
     return fnv1a(data[:14] + bytes([packet.protocol]) + packet.source + packet.target + packet.ports)
+
+
+# Memberships of groups, by what hosts send (RFC 2236, RFC 3376).
+
+
+def memberships(data):
+    """What an IGMP frame says: for each group as four bytes whether its sender joins or leaves it."""
+    packet = ipv4_of(data)
+    body = packet.body if packet and packet.protocol == 2 else b""
+    if len(body) < 8:
+        return []
+    if body[0] in (0x16, 0x17):
+        return [(body[4:8], body[0] == 0x16)]
+    return list(records_of_report(body)) if body[0] == 0x22 else []
+
+
+def records_of_report(body):
+    """Of a report of version 3 the records without sources: types 2 and 4 join, and type 3 leaves."""
+    at = 8
+    for _ in range(int.from_bytes(body[6:8], "big")):
+        if at + 8 > len(body):
+            return
+        sources = int.from_bytes(body[at + 2 : at + 4], "big")
+        if sources == 0 and body[at] in (2, 3, 4):
+            yield body[at + 4 : at + 8], body[at] != 3
+        at += 8 + 4 * sources + 4 * body[at + 1]
 
 
 # In words.
@@ -131,6 +164,8 @@ def content(data):
         words = f"IPv6 {ipaddress.IPv6Address(payload[8:24])} > {ipaddress.IPv6Address(payload[24:40])}"
     elif kind == 0x8100 and len(payload) >= 4:
         words = f"VLAN {int.from_bytes(payload[:2], 'big') & 0xFFF}, type {payload[2:4].hex()}"
+    elif kind < 0x600:
+        words = f"802.3 of length {kind}"
     else:
         words = f"type {kind:04x}"
     return f"{words}, {len(data)} bytes"

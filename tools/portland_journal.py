@@ -282,6 +282,13 @@ def text_of(path, encoding):
         raise Fault(f"{path} is no text") from None
 
 
+def bytes_of(path):
+    try:
+        return pathlib.Path(path).read_bytes()
+    except OSError as error:
+        raise Fault(f"{error.strerror}: {path}") from None
+
+
 def read_journal(path):
     """The rows of a journal."""
     entries = []
@@ -543,20 +550,28 @@ def first_file(places):
 def journal_in(path):
     """The journal of a run: the file itself, or the one in its folder."""
     path = pathlib.Path(path)
+    if not path.exists():
+        raise Fault(f"there is no {path}")
     if not path.is_dir():
         return path
-    found = first_file([path / "journal.txt", path / "expected" / "journal.txt"])
+    found = first_file([path / "journal.txt", path / "expected" / "journal.txt", path / "out" / "journal.txt"])
     if found is None:
-        raise Fault(f"there is no journal.txt in {path} or {path / 'expected'}")
+        raise Fault(f"there is no journal.txt in {path}: {how_to_play(path)}")
     return found
 
 
+def how_to_play(path):
+    """What makes a journal of a folder without one."""
+    if (path / "topology.toml").is_file() and (path / "script").is_file():
+        words = f"--topology {path}/topology.toml --script {path}/script --captures {path}/captures --out {path}"
+        return f"play it first, ./portland run {words}"
+    return "name a folder that a run was saved in"
+
+
 def beside(journal, name):
-    """A file that lies with a journal; stored runs keep what was saved in `expected/`."""
-    places = [journal.parent / name]
-    if journal.absolute().parent.name == "expected":
-        places.append(journal.parent / ".." / name)
-    return first_file(places)
+    """A file that lies with a journal, or one folder up; of `captures` the folder."""
+    folder = journal.absolute().parent
+    return next((place for place in (folder / name, folder.parent / name) if place.exists()), None)
 
 
 def read(path, topology=None, script=None):

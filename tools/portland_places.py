@@ -5,7 +5,26 @@ switch once its level is. Levels follow from frames of hosts, and from neighbour
 votes of more than half of the pod's aggregation switches, and a vote once given is kept for its edge switch for ever.
 """
 
+import re
 from dataclasses import dataclass
+
+from portland_journal import FORMS, OF_FRAMES, READERS, Fault, State
+
+OF_FABRIC = sorted(set(FORMS) - OF_FRAMES - {"line", "skipped"})
+FABRIC_LINE = re.compile(rb"^(" + "|".join(OF_FABRIC).encode() + rb") .*$", re.M)
+
+
+def fabric_state(fabric, data):
+    """The fabric at the end of a journal, given as bytes. Lines of frames are passed over, so this is as fast as a search."""
+    state = State(fabric)
+    for found in FABRIC_LINE.finditer(data):
+        kind, *words = found[0].decode("ascii").split(" ")
+        make, forms = READERS[kind]
+        try:
+            state.read(make(0, 0, kind, *[form(word) for form, word in zip(forms, words, strict=True)]))
+        except (KeyError, ValueError):
+            raise Fault(f"no journal of that topology has the line `{found[0].decode('ascii')[:80]}`") from None
+    return state
 
 
 @dataclass(slots=True)
@@ -41,6 +60,10 @@ class Reasons:
     def pod_mates(self, label):
         pod = self.fabric.by_label[label].pod
         return [s.label for s in self.fabric.switches if s.pod == pod and s.level == 0 and s.label != label]
+
+    def failed_up(self, label):
+        """The neighbours above over failed links."""
+        return [other for port, other in sorted(self.fabric.ports[label].items()) if self.level(other) > self.level(label) and (label, other) in self.state.failed]
 
     def cut(self, label):
         """Why an edge switch cannot have a position by the links that it has; None where it can."""
@@ -109,4 +132,51 @@ def unplaced(fabric, state):
         place = state.places[switch.label]
         if not place.is_placed:
             rows.append(Unplaced(switch.label, place.level, place.position, place.pod, reasons.why(switch.label)))
+    return rows
+
+
+@dataclass(slots=True)
+class Left:
+    """An edge switch with hosts that a settled fabric leaves without a place: why, and which repair heals it."""
+
+    switch: str
+    hosts: list
+    why: str
+    heals: str
+
+
+def repairs(reasons, labels):
+    """The lines that give each of these edge switches the links that a position takes."""
+    told = []
+    for label in labels:
+        missing = reasons.failed_up(label)
+        many = reasons.most - len(reasons.near(label, 1))
+        lines = [f"`repair {label} {other}`" for other in missing]
+        told.append(" and ".join(lines) if many >= len(lines) else f"{many} of {', '.join(lines)}" if many > 1 else " or ".join(lines))
+    return "; " + " and ".join(told) + (" heals it" if told else "") if any(told) else ""
+
+
+def left_without_a_place(fabric, state):
+    """The edge switches with hosts that spoke and that are not placed, in label order: of a fabric that is settled."""
+    reasons = Reasons(fabric, state)
+    rows = []
+    for switch in fabric.switches:
+        label, place = switch.label, state.places[switch.label]
+        hosts = [name for name, (edge, _) in state.spots.items() if edge == label]
+        if switch.level != 0 or place.is_placed or place.level is None or not hosts:
+            continue
+        mates = [other for other in reasons.pod_mates(label) if reasons.is_edge(other) and reasons.place(other).position is None]
+        stuck = [other for other in mates if reasons.cut(other)]
+        if place.position is None and reasons.cut(label):
+            why, root = f"it has no position: {reasons.cut(label)}", [label]
+        elif place.position is None and stuck:
+            held = " and ".join(stuck)
+            why, root = f"the position that it asks for is held for {held}, which lacks the votes for it, and holds have no timeout", stuck
+        elif place.position is None:
+            why, root = f"it has no position: {reasons.of_voteless(label)}", []
+        elif stuck:
+            why, root = f"its position is {place.position}, and the pod has no number: position 0 is kept for {' and '.join(stuck)}, which lacks the votes for it", stuck
+        else:
+            why, root = reasons.of_numberless(label), []
+        rows.append(Left(label, hosts, why, repairs(reasons, root)))
     return rows

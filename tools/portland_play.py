@@ -1,33 +1,32 @@
 """What the tools share: how one ends, which packages it needs, how a run is played, how captures are written."""
 
 import argparse
-import contextlib
 import importlib
 import os
 import pathlib
+import re
 import shutil
 import signal
 import subprocess
 import sys
-from dataclasses import dataclass
 
+from portland_captures import Writer
 from portland_frames import kind_of, mac_bytes
 from portland_journal import Fabric, Fault, Host
 
 TOP = pathlib.Path(__file__).resolve().parent.parent
 DEBIAN = "/usr/bin/python3"
-LONGEST = 262144  # no record of a capture is longer
 
 
-def run_tool(name, main):
-    """Plays a tool with the words behind its name, and gives its status; a fault is one line."""
+def run_tool(name, main, faulty=1):
+    """Plays a tool with the words behind its name, and gives its status; a fault is one line, with a status that a tool may choose."""
     # A reader such as `head` may stop before the end.
     signal.signal(signal.SIGPIPE, signal.SIG_DFL)
     try:
         return main(sys.argv[1:]) or 0
     except Fault as fault:
         print(f"{name}: {fault}", file=sys.stderr)
-        return 1
+        return faulty
     except KeyboardInterrupt:
         return 130
 
@@ -57,37 +56,27 @@ def needed_parallel():
     return found
 
 
-def program():
-    """The program: what PORTLAND names, or the one at the top of the repository."""
-    name = os.environ.get("PORTLAND") or str(TOP / "portland")
-    found = shutil.which(name)
-    if found is None:
-        raise Fault(f"there is no program {name}")
-    return str(pathlib.Path(found).absolute())
+PORTLAND = TOP / "portland"  # plays the program that is built here, or that PORTLAND_PROGRAM names
 
 
-def play(topology, script, captures, out):
-    """Plays a run and gives its summary; files are saved in `out`. Somebody at a terminal sees what the program says."""
-    pathlib.Path(out).mkdir(parents=True, exist_ok=True)
-    words = [program(), "run", "--topology", topology, "--script", script, "--captures", captures, "--out", out]
-    errors = None if sys.stderr.isatty() else subprocess.PIPE
-    played = subprocess.run(list(map(str, words)), stdin=subprocess.DEVNULL, stdout=subprocess.PIPE, stderr=errors, text=True, check=False)
+def call(*words, is_said=False):
+    """What portland prints for these words. Of a fault its first line stands before what to do."""
+    errors = None if is_said and sys.stderr.isatty() else subprocess.PIPE
+    command = [str(PORTLAND), *map(str, words)]
+    played = subprocess.run(command, stdin=subprocess.DEVNULL, stdout=subprocess.PIPE, stderr=errors, text=True, check=False)
+    said = [line for line in (played.stderr or "").splitlines() if line and "not proved yet" not in line]
     if played.returncode != 0:
-        said = [line for line in (played.stderr or "").splitlines() if line and "not proved yet" not in line]
         raise Fault("\n".join(said) or f"the program ended with status {played.returncode}")
+    if is_said:
+        print("".join(f"{line}\n" for line in said if line.startswith("note: ")), end="", file=sys.stderr)
     return played.stdout
 
 
-def capture_writer(path):
-    """A new capture of Ethernet frames, for `write_record`."""
-    utils = needed("scapy.utils", "python3-scapy")
-    writer = utils.RawPcapWriter(str(path), linktype=1, endianness="<", snaplen=LONGEST)
-    writer.write_header(None)
-    return writer
-
-
-def write_record(writer, data, seconds, micros=0, original=None):
-    writer.write_packet(data, sec=seconds, usec=micros, caplen=len(data), wirelen=original or len(data))
+def play(topology, script, captures, out, command="run", is_said=False):
+    """Plays a run and gives its summary; files are saved in `out`."""
+    pathlib.Path(out).mkdir(parents=True, exist_ok=True)
+    items = ["--topology", topology, "--script", script, "--captures", captures, "--out", out]
+    return call(command, *items, "--bare", is_said=is_said)
 
 
 # Folders that hold a whole run: topology.toml, script and captures/, and what comes of them.
@@ -96,7 +85,7 @@ def write_record(writer, data, seconds, micros=0, original=None):
 def play_folder(folder):
     """Plays the run of a folder, and saves journal, captures and summary beside it."""
     folder = pathlib.Path(folder)
-    summary = play(folder / "topology.toml", folder / "script", folder / "captures", folder)
+    summary = play(folder / "topology.toml", folder / "script", folder / "captures", folder, is_said=True)
     (folder / "summary").write_text(summary)
     return summary
 
@@ -132,6 +121,26 @@ def arity(word):
     return int(word)
 
 
+def at_least_1(word):
+    """A number of the command line that is at least 1."""
+    if not word.isdecimal() or int(word) < 1:
+        raise argparse.ArgumentTypeError(f"{word} is no number from 1 on")
+    return int(word)
+
+
+def linked(words):
+    """The words of a command line, with a link behind --fail as two words, be it given as `e0.0-a0.0`."""
+    found = []
+    for word in words:
+        name, is_joined, link = word.partition("=")
+        if name == "--fail" and is_joined:
+            found.append(name)
+            word = link
+        is_link = found[-1:] == ["--fail"] and re.fullmatch(r"[eac]\d+\.\d+-[eac]\d+\.\d+", word)
+        found += word.split("-") if is_link else [word]
+    return found
+
+
 # Test frames: each host sends to each other one. They have the type 88b6, which is free for experiments.
 
 
@@ -153,54 +162,8 @@ def write_probes(fabric, folder, turns=1):
     hosts = fabric.hosts
     for a, host in enumerate(hosts):
         host.capture = f"{host.name}.pcap"
-        writer = capture_writer(folder / host.capture)
-        for turn in range(turns):
-            for b in range(len(hosts)):
-                if a != b:
-                    write_record(writer, probe(hosts, a, b, turn), turn)
-        writer.close()
-
-
-@dataclass(slots=True)
-class Record:
-    data: bytes
-    seconds: int
-    nanos: int
-    original: int  # the frame's length, of which the capture may have less
-
-
-def record_of(data, meta):
-    """A record as scapy reads it: of pcap with seconds and micro- or nanoseconds, of pcapng with ticks."""
-    if hasattr(meta, "tshigh"):
-        ticks = (meta.tshigh or 0) << 32 | (meta.tslow or 0)
-        seconds, rest = divmod(ticks, meta.tsresol or 1_000_000)
-        return Record(data, seconds, rest * 1_000_000_000 // (meta.tsresol or 1_000_000), meta.wirelen or len(data))
-    return Record(data, meta.sec, meta.usec, meta.wirelen)
-
-
-def raw_records(reader):
-    """The records of a reader of scapy, each with what is said of it; of pcap whole, however long they are."""
-    is_pcapng = "Ng" in type(reader).__name__
-    with contextlib.closing(reader), contextlib.suppress(EOFError):
-        while True:
-            yield reader._read_packet() if is_pcapng else reader._read_packet(size=LONGEST)
-
-
-def read_records(path):
-    """The records of a capture, pcap or pcapng, packed by gzip or not; the link type has to be Ethernet."""
-    utils = needed("scapy.utils", "python3-scapy")
-    try:
-        reader = utils.RawPcapReader(str(path))
-        is_nano = getattr(reader, "nano", False)
-        for data, meta in raw_records(reader):
-            linktype = getattr(meta, "linktype", None) or getattr(reader, "linktype", 1)
-            if linktype != 1:
-                raise Fault(f"{path} has frames of link type {linktype}, and not of Ethernet: capture on an Ethernet interface")
-            record = record_of(data, meta)
-            if not hasattr(meta, "tshigh") and not is_nano:
-                record.nanos *= 1000
-            yield record
-    except OSError as error:
-        raise Fault(f"{error.strerror or error}: {path}") from None
-    except utils.Scapy_Exception as error:
-        raise Fault(f"{path} is no capture that can be read: {error}") from None
+        with Writer(folder / host.capture) as capture:
+            for turn in range(turns):
+                for b in range(len(hosts)):
+                    if a != b:
+                        capture.write(probe(hosts, a, b, turn), turn)

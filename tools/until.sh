@@ -16,6 +16,8 @@ until_line() {
         shift
     fi
     is_play "${1:-}" || set -- run "$@"
+    take_bare "$@"
+    eval "set -- $words"
     make_work
     take_script "$work/before" "$@"
     eval "set -- $words"
@@ -31,7 +33,7 @@ until_line() {
     refuse_overwriting "$@"
     if [ -z "$way" ] && ! is_proved; then
         way=try
-        tell_unproved
+        tell_unproved ''
     fi
     play "${way:-proved}" "$@"
     [ "$status" -ne 0 ] || show_line
